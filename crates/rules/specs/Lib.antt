@@ -4,6 +4,7 @@ pub mod Job
 pub mod File
 pub mod Reading
 pub mod Rings
+pub mod Tables
 pub mod Hours
 pub mod Moments
 pub mod Urgency
