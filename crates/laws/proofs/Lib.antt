@@ -1,0 +1,3 @@
+-- Laws by topic: of the shared words, of rings.
+pub mod Words
+pub mod Rings
