@@ -1,3 +1,4 @@
 -- Laws by topic: of the shared words, of rings.
 pub mod Words
 pub mod Rings
+pub mod Sound
