@@ -2,3 +2,5 @@
 pub mod Words
 pub mod Rings
 pub mod Sound
+pub mod Signed
+pub mod Order
