@@ -4,3 +4,4 @@ pub mod Rings
 pub mod Sound
 pub mod Signed
 pub mod Order
+pub mod Slots
