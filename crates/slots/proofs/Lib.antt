@@ -2,3 +2,5 @@
 pub mod Seams
 pub mod Standing
 pub mod Stretch
+pub mod Growth
+pub mod Last
