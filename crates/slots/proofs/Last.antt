@@ -85,7 +85,7 @@ module _ (J : Job) where
         ∙ untouched-yet d t i (sym (last-rested d t e) ∙ h) l q)
       (λ x e. none-or-some (sym h ∙ last-worked d t x e))
 
-  left-falls : (t i : ℕ) → i < pieceCount J → at J (suc t) i .left ≤ at J t i .left
+  pub left-falls : (t i : ℕ) → i < pieceCount J → at J (suc t) i .left ≤ at J t i .left
   unfolding workedOn
   left-falls t i h = by-work J t i
       (λ e. rw (work-on J t i h e) (omega arith))

@@ -4,3 +4,5 @@ pub mod Standing
 pub mod Stretch
 pub mod Growth
 pub mod Last
+pub mod Score
+pub mod Ended
