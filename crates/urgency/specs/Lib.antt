@@ -1,0 +1,2 @@
+-- What the functions of this crate do to their tables, and the contract of the plan.
+pub mod Choice
