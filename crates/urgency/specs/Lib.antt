@@ -1,2 +1,3 @@
 -- What the functions of this crate do to their tables, and the contract of the plan.
 pub mod Choice
+pub mod Work
