@@ -2,3 +2,4 @@
 pub mod Turns
 pub mod Considered
 pub mod Worked
+pub mod Noted
