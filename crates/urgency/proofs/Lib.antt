@@ -3,3 +3,4 @@ pub mod Turns
 pub mod Considered
 pub mod Worked
 pub mod Noted
+pub mod Chains
