@@ -4,3 +4,4 @@ pub mod Considered
 pub mod Worked
 pub mod Noted
 pub mod Chains
+pub mod Passed

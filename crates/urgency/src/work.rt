@@ -1,13 +1,13 @@
 // The slots up to the next decision moment, worked on the chosen pieces at once.
 ghost use mathlib.Core.Path.{_≡_};
-ghost use Prim.Native.Nat.{_-_};
+ghost use Prim.Native.Nat.{_-_, _<_};
 ghost use lib.Dec.{eqb};
 ghost use Rattle.rules.specs.Words.{when};
 ghost use Rattle.urgency.specs.Work.{work, workOn, workTo};
 
 // A number of two bytes as one of four.
 pub fn wide(x: u16) -> u32
-    ensures { λ r. ⌜ r ≡ x ⌝ }
+    ensures { λ r. ⌜ (r ≡ x) × (r < 65536) ⌝ }
 {
     x as u32
 }

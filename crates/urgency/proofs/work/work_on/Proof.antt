@@ -75,7 +75,7 @@ returns-2 c =
     (c .before .less .result) (c .less2 .result)
     (c .before .before .before .start-of .result) (work (a .left .now) (a .start .now) (a .finish .now))
     (c .before .before .before .before .before .before .before .before .if1 .left)
-    (c .before .before .before .before .before .wide .ensures) (c .before .before .before .start-of .ensures)
+    (c .before .before .before .before .before .wide .ensures .0) (c .before .before .before .start-of .ensures)
     (c .before .less .ensures) (c .less2 .ensures)
 
 pub work-on-spec : {M : Type 1} → statement M
