@@ -4,4 +4,8 @@ pub mod Rings
 pub mod Sound
 pub mod Signed
 pub mod Order
+pub mod Delay
+pub mod Hours
 pub mod Slots
+pub mod Progress
+pub mod Finishing

@@ -151,15 +151,15 @@ module _ (J : Job) (sound : Sound J) where
 
     -- What holds of a piece once it holds of the pieces before it holds of all; and so for the pieces after it.
     pub along-before : {P : ℕ → Type 0}
-      → ((j : ℕ) → j < pieceCount J → ((l : Link) → Mem l (J .links) → l .after ≡ j → P (l .before)) → P j)
-      → (j : ℕ) → j < pieceCount J → P j
+        → ((j : ℕ) → j < pieceCount J → ((l : Link) → Mem l (J .links) → l .after ≡ j → P (l .before)) → P j)
+        → (j : ℕ) → j < pieceCount J → P j
     along-before {P} step =
         R.along-before (linked J) (pieceCount J) links-inside no-ring {P = P}
         (λ j h prior. step j h (λ l m e. prior (l .before) (rw e at (link-linked J l m))))
 
     pub along-after : {P : ℕ → Type 0}
-      → ((i : ℕ) → i < pieceCount J → ((l : Link) → Mem l (J .links) → l .before ≡ i → P (l .after)) → P i)
-      → (i : ℕ) → i < pieceCount J → P i
+        → ((i : ℕ) → i < pieceCount J → ((l : Link) → Mem l (J .links) → l .before ≡ i → P (l .after)) → P i)
+        → (i : ℕ) → i < pieceCount J → P i
     along-after {P} step =
         R.along-after (linked J) (pieceCount J) links-inside no-ring {P = P}
         (λ i h later. step i h (λ l m e. later (l .after) (rw e at (link-linked J l m))))
