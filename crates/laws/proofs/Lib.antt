@@ -6,6 +6,7 @@ pub mod Signed
 pub mod Order
 pub mod Delay
 pub mod Hours
+pub mod Latest
 pub mod Slots
 pub mod Progress
 pub mod Finishing
