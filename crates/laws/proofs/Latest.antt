@@ -26,12 +26,12 @@ asked J moment i = leastZ (pos (piece J i .due)) (map (λ l. moment (l .after) -
 
 -- It looks at the pieces after i alone.
 pub asked-same : (J : Job) (f g : ℕ → ℤ) (i : ℕ) → ((l : Link) → Mem l (linksFrom J i) → f (l .after) ≡ g (l .after))
-  → asked J f i ≡ asked J g i
+    → asked J f i ≡ asked J g i
 unfolding asked
 asked-same J f g i h =
     ap (leastZ (pos (piece J i .due))) (map-same (λ l. f (l .after) -ℤ pos (takesOff J l))
-      (λ l. g (l .after) -ℤ pos (takesOff J l)) (linksFrom J i)
-      (λ l m. ap (λ z. z -ℤ pos (takesOff J l)) (h l m)))
+    (λ l. g (l .after) -ℤ pos (takesOff J l)) (linksFrom J i)
+    (λ l m. ap (λ z. z -ℤ pos (takesOff J l)) (h l m)))
 
 pub asked-due : (J : Job) (f : ℕ → ℤ) (i : ℕ) → asked J f i ≼ pos (piece J i .due)
 unfolding asked
@@ -39,14 +39,14 @@ asked-due J f i =
     least-start (pos (piece J i .due)) (map (λ l. f (l .after) -ℤ pos (takesOff J l)) (linksFrom J i))
 
 pub asked-after : (J : Job) (f : ℕ → ℤ) (i : ℕ) (l : Link) → Mem l (linksFrom J i)
-  → asked J f i ≼ (f (l .after) -ℤ pos (takesOff J l))
+    → asked J f i ≼ (f (l .after) -ℤ pos (takesOff J l))
 unfolding asked
 asked-after J f i l m =
     least-mem _ (map (λ l. f (l .after) -ℤ pos (takesOff J l)) (linksFrom J i)) _
     (mem-map (λ l. f (l .after) -ℤ pos (takesOff J l)) (linksFrom J i) l m)
 
 pub asked-most : (J : Job) (f : ℕ → ℤ) (i : ℕ) (c : ℤ) → c ≼ pos (piece J i .due)
-  → ((l : Link) → Mem l (linksFrom J i) → c ≼ (f (l .after) -ℤ pos (takesOff J l))) → c ≼ asked J f i
+    → ((l : Link) → Mem l (linksFrom J i) → c ≼ (f (l .after) -ℤ pos (takesOff J l))) → c ≼ asked J f i
 unfolding asked
 asked-most J f i c h k = least-within (pos (piece J i .due)) c (λ l. f (l .after) -ℤ pos (takesOff J l)) (linksFrom J i) h k
 
@@ -95,11 +95,11 @@ module _ (J : Job) (sound : Sound J) (free : ringPiece J ≡ none) where
 
   -- It has one solution.
   pub latest-unique : (f : ℕ → ℤ) → ((i : ℕ) → i < pieceCount J → f i ≡ asked J f i)
-    → (i : ℕ) → i < pieceCount J → f i ≡ latest J i
+      → (i : ℕ) → i < pieceCount J → f i ≡ latest J i
   latest-unique f h =
       along-after J sound free {P = λ i. f i ≡ latest J i}
       (λ i l later. h i l ∙ asked-same J f (latest J) i
-        (λ k m. let w = from-link J i k m in later k (w .0) (w .1)) ∙ sym (latest-equation i l))
+      (λ k m. let w = from-link J i k m in later k (w .0) (w .1)) ∙ sym (latest-equation i l))
 
   pub latest-due : (i : ℕ) → i < pieceCount J → latest J i ≼ pos (piece J i .due)
   latest-due i h = rw (latest-equation i h) (asked-due J (latest J) i)
@@ -116,21 +116,32 @@ module _ (J : Job) (sound : Sound J) (free : ringPiece J ≡ none) where
   latest-low =
       along-after J sound free {P = λ i. below-zero (960 * behind J sound free i) ≼ latest J i}
       (λ i h later. rw (latest-equation i h)
-        (asked-most J (latest J) i (below-zero (960 * behind J sound free i))
-          (omega (arith, below-zero-is (960 * behind J sound free i)))
-          (λ l m.
-            let w = from-link J i l m in
-            let ih : below-zero (960 * behind J sound free (l .after)) ≼ latest J (l .after) = later l (w .0) (w .1) in
-            let f : behind J sound free (l .after) < behind J sound free (l .before) = behind-falls J sound free l (w .0) in
-            let q : behind J sound free (l .before) ≡ behind J sound free i = ap (behind J sound free) (w .1) in
-            omega (arith, below-zero-is (960 * behind J sound free i), below-zero-is (960 * behind J sound free (l .after)),
-              minus (latest J (l .after)) (pos (takesOff J l)), takes-off-most J sound l (w .0)))))
+      (asked-most J (latest J) i (below-zero (960 * behind J sound free i))
+      (omega (arith, below-zero-is (960 * behind J sound free i)))
+      (λ l m.
+      let w = from-link J i l m in
+      let ih : below-zero (960 * behind J sound free (l .after)) ≼ latest J (l .after) = later l (w .0) (w .1) in
+      let f : behind J sound free (l .after) < behind J sound free (l .before) = behind-falls J sound free l (w .0) in
+      let q : behind J sound free (l .before) ≡ behind J sound free i = ap (behind J sound free) (w .1) in
+      omega (
+        arith,
+        below-zero-is (960 * behind J sound free i),
+        below-zero-is (960 * behind J sound free (l .after)),
+        minus (latest J (l .after)) (pos (takesOff J l)),
+        takes-off-most J sound l (w .0),
+      ))))
 
   -- Latest moments lie in -244,800 to 40,000.
   pub latest-least : (i : ℕ) → i < pieceCount J → below-zero 244800 ≼ latest J i
   latest-least i h =
-      omega (arith, latest-low i h, behind-few J sound free i h, sound .few-pieces,
-        below-zero-is (960 * behind J sound free i), below-zero-is 244800)
+      omega (
+        arith,
+        latest-low i h,
+        behind-few J sound free i h,
+        sound .few-pieces,
+        below-zero-is (960 * behind J sound free i),
+        below-zero-is 244800,
+      )
 
   pub latest-most : (i : ℕ) → i < pieceCount J → latest J i ≼ pos 40000
   unfolding up dn

@@ -6,6 +6,8 @@ pub mod Signed
 pub mod Order
 pub mod Delay
 pub mod Hours
+pub mod Reading
+pub mod Prefix
 pub mod Latest
 pub mod Slots
 pub mod Progress

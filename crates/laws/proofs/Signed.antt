@@ -148,7 +148,7 @@ least-most z c (x ∷ xs) h k =
 
 -- The same over a table.
 pub least-within : {A : Type 0} (z c : ℤ) (f : A → ℤ) (l : List A) → c ≼ z → ((x : A) → Mem x l → c ≼ f x)
-  → c ≼ leastZ z (map f l)
+    → c ≼ leastZ z (map f l)
 unfolding leastZ
 least-within z c f [] h k = h
 least-within z c f (x ∷ xs) h k =

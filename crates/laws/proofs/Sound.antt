@@ -16,7 +16,7 @@ use Rattle.rules.specs.Rings.{via, linkedBy, linked, ringPiece}
 use Rattle.rules.specs.Tables.{Sound, noLink}
 use Rattle.rules.specs.declared.Piece.{Piece}
 use Rattle.rules.specs.declared.Link.{Link}
-use Rattle.laws.proofs.Words.{by-test, true-or-false, and-true, and-intro, or-false, mem-keep, keep-mem, oneOf-found, oneOf-intro}
+use Rattle.laws.proofs.Words.{by-test, true-or-false, passed, and-true, and-intro, or-false, mem-keep, keep-mem, oneOf-found, oneOf-intro}
 use Rattle.laws.proofs.Rings as R
 
 -- A member stands at some place of its list.
@@ -28,12 +28,6 @@ pub place-mem : {A : Type 0} (z : A) (l : List A) (k : ℕ) → k < length l →
 place-mem z [] k h = absurd (omega arith)
 place-mem z (y ∷ ys) zero h = here refl
 place-mem z (y ∷ ys) (suc k) h = there (place-mem z ys k (omega arith))
-
--- A judgement that ends in 0 was passed at each of its tests.
-passed : (b : Bool) (fault later : ℕ) → when b (suc fault) later ≡ 0 → (b ≡ false) × (later ≡ 0)
-unfolding when
-passed true fault later h = absurd (omega arith)
-passed false fault later h = (refl, h)
 
 -- The values of a piece without a fault.
 pub record PieceFits (p : Piece) : Type 0 where

@@ -57,6 +57,12 @@ pub when-false : {A : Type 0} (b : Bool) (x y : A) → b ≡ false → when b x 
 unfolding when
 when-false b x y p = rw p
 
+-- A judgement that ends in 0 was passed at each of its tests.
+pub passed : (b : Bool) (fault later : ℕ) → when b (suc fault) later ≡ 0 → (b ≡ false) × (later ≡ 0)
+unfolding when
+passed true fault later h = absurd (omega arith)
+passed false fault later h = (refl, h)
+
 -- A member of the list with or without its head, by the test of the head.
 kept : {A : Type 0} (b : Bool) (x y : A) (l : List A) → Mem x l → Mem x (when b (y ∷ l) l)
 unfolding when
