@@ -1,2 +1,7 @@
+
 pub mod Cases
 pub mod Count
+pub mod Lists
+pub mod Plans
+pub mod Layers
+pub mod Order

@@ -1,0 +1,96 @@
+-- A plan of a desk says for each slot the number worked on, or that the desk rests. Here are the words for plans: who
+-- works, how often before a moment, and a plan with one number taken out. Assumes nothing.
+use mathlib.Core.Path.{_≡_, refl, sym, ap, _∙_}
+use mathlib.Core.Bool.{Bool, true, false}
+use mathlib.Core.Option.{Option, none, some, Option·some-injective}
+use Prim.Native.Nat.{ℕ}
+use lib.Dec.{eqb}
+use borrow.Author.Tests.{eqb-true, eq-eqb, ne-eqb}
+use Rattle.theory.proofs.Cases.{by-test, clash}
+use Rattle.theory.proofs.Count.{cnt, cnt-ext}
+
+abbrev pub Plan : Type 0
+Plan = ℕ → Option ℕ
+
+unfoldable pub works : Option ℕ → ℕ → Bool
+works none i = false
+works (some j) i = eqb j i
+
+unfoldable pub busy : Option ℕ → Bool
+busy none = false
+busy (some j) = true
+
+-- slots before t in which i is worked on
+abbrev pub did : Plan → ℕ → ℕ → ℕ
+did w i t = cnt (λ s. works (w s) i) t
+
+pub works-some : (o : Option ℕ) (i : ℕ) → works o i ≡ true → o ≡ some i
+unfolding works
+works-some none i h = clash h refl
+works-some (some j) i h = ap some (eqb-true j i h)
+
+pub some-works : (o : Option ℕ) (i : ℕ) → o ≡ some i → works o i ≡ true
+unfolding works
+some-works o i e = rw e (eq-eqb i i refl)
+
+pub other-works : (o : Option ℕ) (i j : ℕ) → o ≡ some i → (i ≡ j → ⊥) → works o j ≡ false
+unfolding works
+other-works o i j e h = rw e (ne-eqb i j h)
+
+pub works-busy : (o : Option ℕ) (i : ℕ) → works o i ≡ true → busy o ≡ true
+unfolding works busy
+works-busy none i h = h
+works-busy (some j) i h = refl
+
+pub busy-some : (o : Option ℕ) → busy o ≡ true → (i : ℕ) × (o ≡ some i)
+unfolding busy
+busy-some none h = clash h refl
+busy-some (some j) h = (j, refl)
+
+pub busy-none : (o : Option ℕ) → busy o ≡ false → o ≡ none
+unfolding busy
+busy-none none h = refl
+busy-none (some j) h = clash refl h
+
+pub some-busy : (o : Option ℕ) (i : ℕ) → o ≡ some i → busy o ≡ true
+unfolding busy
+some-busy o i e = rw e
+
+pub none-busy : (o : Option ℕ) → o ≡ none → busy o ≡ false
+unfolding busy
+none-busy o e = rw e
+
+pub none-works : (o : Option ℕ) (i : ℕ) → o ≡ none → works o i ≡ false
+unfolding works
+none-works o i e = rw e
+
+-- the plan w with number i taken out
+unfoldable pub without : ℕ → Plan → Plan
+without i w t = elim (works (w t) i) [ true ↦ none | false ↦ w t ]
+
+module _ (i : ℕ) (w : Plan) (t : ℕ) where
+  pub without-hit : works (w t) i ≡ true → without i w t ≡ none
+  unfolding without
+  without-hit h = rw (h, without)
+
+  pub without-miss : works (w t) i ≡ false → without i w t ≡ w t
+  unfolding without
+  without-miss h = rw (h, without)
+
+  pub without-self : works (without i w t) i ≡ false
+  without-self =
+      by-test (works (w t) i)
+      (λ h. none-works (without i w t) i (without-hit h))
+      (λ h. rw (without-miss h) h)
+
+  pub without-other : (j : ℕ) → (j ≡ i → ⊥) → works (without i w t) j ≡ works (w t) j
+  without-other j apart =
+      by-test (works (w t) i)
+      (λ h.
+          none-works (without i w t) j (without-hit h)
+          ∙ sym (other-works (w t) i j (works-some (w t) i h) (λ e. apart (sym e))))
+      (λ h. rw (without-miss h))
+
+pub did-without : (i : ℕ) (w : Plan) (j : ℕ) → (j ≡ i → ⊥) → (t : ℕ) → did (without i w) j t ≡ did w j t
+did-without i w j apart t =
+    cnt-ext (λ s. works (without i w s) j) (λ s. works (w s) j) t (λ k h. without-other i w k j apart)
