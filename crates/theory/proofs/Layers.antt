@@ -9,7 +9,7 @@ use mathlib.Core.List.{List·Memᴰ·head as here, List·Memᴰ·tail as there}
 use Prim.Native.Nat.{ℕ, _+_, _≤_, _<_, min}
 use native.Mathlib.Omega.{arith}
 use lib.Dec.{leb, ltb}
-use borrow.Author.Tests.{leb-true, not-true, ltb-true}
+use borrow.Author.Tests.{leb-true, le-leb, lt-ltb, ltb-true, not-true}
 use Rattle.theory.proofs.Cases.{by-test, clash, and-true, test-ext}
 use Rattle.theory.proofs.Count.{cnt, cnt-ext, cnt-or, firstN, cnt-firstN}
 use Rattle.theory.proofs.Lists.{_∈_, Distinct}
@@ -60,6 +60,15 @@ module _ {E : Type 0} (num ready dur : E → ℕ) (opens : ℕ → Bool) where
     unfolding takes firstN
     takes-chance h = and-true (chance x w t) (ltb (cnt (chance x w) t) (dur x)) h .0
 
+    pub takes-left : takes x w t ≡ true → cnt (chance x w) t < dur x
+    unfolding takes firstN
+    takes-left h =
+        ltb-true (cnt (chance x w) t) (dur x) (and-true (chance x w t) (ltb (cnt (chance x w) t) (dur x)) h .1)
+
+    pub takes-when : chance x w t ≡ true → cnt (chance x w) t < dur x → takes x w t ≡ true
+    unfolding takes firstN
+    takes-when h k = rw (h, lt-ltb (cnt (chance x w) t) (dur x) k)
+
     pub chance-open : chance x w t ≡ true → opens t ≡ true
     unfolding chance
     chance-open h = and-true (opens t) (leb (ready x) t) (and-true (opens t && leb (ready x) t) (not (busy (w t))) h .0) .0
@@ -73,6 +82,10 @@ module _ {E : Type 0} (num ready dur : E → ℕ) (opens : ℕ → Bool) where
     pub chance-free : chance x w t ≡ true → busy (w t) ≡ false
     unfolding chance
     chance-free h = not-true (busy (w t)) (and-true (opens t && leb (ready x) t) (not (busy (w t))) h .1)
+
+    pub chance-when : opens t ≡ true → ready x ≤ t → busy (w t) ≡ false → chance x w t ≡ true
+    unfolding chance
+    chance-when h k b = rw (h, le-leb (ready x) t k, b)
 
     pub layer-busy : busy (layer x w t) ≡ (busy (w t) || takes x w t)
     layer-busy =

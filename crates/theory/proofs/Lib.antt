@@ -5,3 +5,5 @@ pub mod Lists
 pub mod Plans
 pub mod Layers
 pub mod Order
+pub mod Rule
+pub mod Obeyed

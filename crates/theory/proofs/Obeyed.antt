@@ -1,0 +1,91 @@
+-- The plan by layers obeys the rule; so the rule has exactly one plan, whatever the order in which the entries are
+-- listed. From the rule alone: such a plan is allowed, and rests in an open slot only if all that is ready is done.
+-- Assumes nothing.
+use mathlib.Core.Path.{_≡_, refl, sym, ap, _∙_}
+use mathlib.Core.Bool.{Bool, true, false}
+use mathlib.Core.Option.{Option, none, some, Option·some-injective}
+use mathlib.Core.List.{List, [], _∷_}
+use mathlib.Core.List.{List·Memᴰ·head as here, List·Memᴰ·tail as there}
+use Prim.Native.Nat.{ℕ, zero, suc, _≤_, _<_, min}
+use native.Mathlib.Omega.{arith}
+use Rattle.theory.proofs.Cases.{by-test, by-le, clash}
+use Rattle.theory.proofs.Count.{cnt, cnt-zero, cnt-hit, cnt-miss}
+use Rattle.theory.proofs.Lists.{_∈_, by-mem, Distinct, same-number}
+use Rattle.theory.proofs.Order.{Urgency, Ordered, sorted, sorted-mem, mem-sorted, sorted-distinct, sorted-ordered}
+use Rattle.theory.proofs.Plans as Plans
+use Rattle.theory.proofs.Plans.{Plan, works, busy, did}
+use Rattle.theory.proofs.Layers as Layers
+use Rattle.theory.proofs.Rule.{Chooses, work, rest, Candidate, Obeys, moved, obeys-is-layers}
+
+module _ {E : Type 0} (num ready dur : E → ℕ) (opens : ℕ → Bool) (sooner : E → E → Bool) where
+  -- one more layer obeys the rule for one more entry
+  module _ (x : E) (L : List E) (d : Distinct num (x ∷ L)) (o : Ordered sooner (x ∷ L)) (w : Plan)
+      (fresh : (s : ℕ) → works (w s) (num x) ≡ false) (t : ℕ) where
+    abbrev v : Plan
+    v = Layers.layer num ready dur opens x w
+
+    abbrev Can : Plan → E → Type 0
+    Can u = Candidate num ready dur opens u t
+
+    same : (f : E) → f ∈ L → did v (num f) t ≡ did w (num f) t
+    same f m = Layers.did-layer-other num ready dur opens x w (num f) (d .0 f m) t
+
+    old : (f : E) → f ∈ L → Can v f → Can w f
+    old f m c = moved num ready dur opens w v t f (sym (same f m)) c
+
+    own : did v (num x) t ≡ min (cnt (Layers.chance num ready dur opens x w) t) (dur x)
+    own = Layers.did-layer-self num ready dur opens x w fresh t
+
+    layer-hits : Layers.takes num ready dur opens x w t ≡ true → Chooses num sooner (Can w) L (w t)
+        → Chooses num sooner (Can v) (x ∷ L) (v t)
+    layer-hits h c =
+        work x (here refl) (Layers.layer-hit num ready dur opens x w t h)
+        (record {
+          hour = Layers.chance-open num ready dur opens x w t chance;
+          ripe = Layers.chance-ready num ready dur opens x w t chance;
+          left = omega (arith, own, Layers.takes-left num ready dur opens x w t h)
+        })
+        (λ f m k apart. by-mem m (λ p. absurd (apart (ap num p))) (λ n. absurd (nobody c f n (old f n k))))
+      where
+        chance : Layers.chance num ready dur opens x w t ≡ true
+        chance = Layers.takes-chance num ready dur opens x w t h
+        nobody : Chooses num sooner (Can w) L (w t) → (f : E) → f ∈ L → Can w f → ⊥
+        nobody (work e m q k s) f n j =
+            clash (Plans.some-busy (w t) (num e) q) (Layers.chance-free num ready dur opens x w t chance)
+        nobody (rest q n) f m j = n f m j
+
+    layer-misses : Layers.takes num ready dur opens x w t ≡ false → Chooses num sooner (Can w) L (w t)
+        → Chooses num sooner (Can v) (x ∷ L) (v t)
+    layer-misses h (work e m q c s) =
+        work e (there m) (Layers.layer-miss num ready dur opens x w t h ∙ q)
+        (moved num ready dur opens v w t e (same e m) c)
+        (λ f n k apart.
+            by-mem n
+            (λ p. rw p (o .0 e m))
+            (λ n′. s f n′ (old f n′ k) apart))
+    layer-misses h (rest q n) =
+        rest (Layers.layer-miss num ready dur opens x w t h ∙ q)
+        (λ f m c.
+            by-mem m
+            (λ p. done (rw p at c))
+            (λ n′. n f n′ (old f n′ c)))
+      where
+        done : Can v x → ⊥
+        done c =
+            clash
+            (Layers.takes-when num ready dur opens x w t
+                (Layers.chance-when num ready dur opens x w t (c .hour) (c .ripe) (Plans.none-busy (w t) q))
+                (omega (arith, own, c .left)))
+            h
+
+  -- THE LAYERS OBEY THE RULE
+  pub layers-obey : (L : List E) → Distinct num L → Ordered sooner L
+      → Obeys num ready dur opens sooner L (Layers.layers num ready dur opens L)
+  unfolding Layers.layers
+  layers-obey [] d o t = rest refl (λ f m c. elim m [ ])
+  layers-obey (x ∷ L) d o t =
+      let w : Plan = Layers.layers num ready dur opens L in
+      let fresh : (s : ℕ) → works (w s) (num x) ≡ false = Layers.layers-fresh num ready dur opens L (num x) (d .0) in
+      by-test (Layers.takes num ready dur opens x w t)
+      (λ h. layer-hits x L d o w fresh t h (layers-obey L (d .1) (o .1) t))
+      (λ h. layer-misses x L d o w fresh t h (layers-obey L (d .1) (o .1) t))
