@@ -15,6 +15,7 @@ use Rattle.theory.proofs.Order.{Urgency, Ordered, sorted, sorted-mem, m
 use Rattle.theory.proofs.Plans as Plans
 use Rattle.theory.proofs.Plans.{Plan, works, busy, did}
 use Rattle.theory.proofs.Layers as Layers
+use Rattle.theory.proofs.Allowed.{Allowed}
 use Rattle.theory.proofs.Rule.{Chooses, work, rest, Candidate, Obeys, moved, obeys-is-layers}
 
 module _ {E : Type 0} (num ready dur : E → ℕ) (opens : ℕ → Bool) (sooner : E → E → Bool) where
@@ -89,3 +90,95 @@ module _ {E : Type 0} (num ready dur : E → ℕ) (opens : ℕ → Bool) (sooner
       by-test (Layers.takes num ready dur opens x w t)
       (λ h. layer-hits x L d o w fresh t h (layers-obey L (d .1) (o .1) t))
       (λ h. layer-misses x L d o w fresh t h (layers-obey L (d .1) (o .1) t))
+
+  -- the rule looks at who is in the list, and at nothing else of it
+  pub obeys-members : (L K : List E) → ((e : E) → e ∈ L → e ∈ K) → ((e : E) → e ∈ K → e ∈ L) → (w : Plan)
+      → Obeys num ready dur opens sooner L w → Obeys num ready dur opens sooner K w
+  obeys-members L K to from w rule t = go (rule t)
+    where
+      go : Chooses num sooner (Candidate num ready dur opens w t) L (w t)
+          → Chooses num sooner (Candidate num ready dur opens w t) K (w t)
+      go (work e m q c s) = work e (to e m) q c (λ f n. s f (from f n))
+      go (rest q n) = rest q (λ f m. n f (from f m))
+
+  -- in an open slot the desk rests only if each entry that is ready is done
+  pub obeys-idle : (L : List E) (w : Plan) → Obeys num ready dur opens sooner L w → (t : ℕ) → opens t ≡ true
+      → w t ≡ none → (e : E) → e ∈ L → ready e ≤ t → dur e ≤ did w (num e) t
+  obeys-idle L w rule t h q e m k =
+      by-le (dur e) (did w (num e) t) (λ z. z)
+      (λ z. absurd (nobody (rule t) (record { hour = h; ripe = k; left = z })))
+    where
+      nobody : Chooses num sooner (Candidate num ready dur opens w t) L (w t) → Candidate num ready dur opens w t e → ⊥
+      nobody (work f n p c s) k = Plans.none-some (w t) (num f) q p
+      nobody (rest p n) k = n e m k
+
+  module _ (L : List E) (d : Distinct num L) (w : Plan) (rule : Obeys num ready dur opens sooner L w) where
+    -- who is worked on is a candidate
+    pub obeys-candidate : (t : ℕ) (e : E) → e ∈ L → w t ≡ some (num e) → Candidate num ready dur opens w t e
+    obeys-candidate t e m p = go (rule t)
+      where
+        go : Chooses num sooner (Candidate num ready dur opens w t) L (w t) → Candidate num ready dur opens w t e
+        go (work f n q c s) =
+            let same : f ≡ e = same-number num L d f e n m (Option·some-injective (num f) (num e) (sym q ∙ p)) in
+            rw same at c
+        go (rest q n) = absurd (Plans.none-some (w t) (num e) q p)
+
+    obeys-most : (e : E) → e ∈ L → (t : ℕ) → did w (num e) t ≤ dur e
+    obeys-most e m zero = omega (arith, cnt-zero (λ s. works (w s) (num e)))
+    obeys-most e m (suc t) =
+        by-test (works (w t) (num e))
+        (λ h.
+            omega
+            ( arith
+            , cnt-hit (λ s. works (w s) (num e)) t h
+            , obeys-candidate t e m (Plans.works-some (w t) (num e) h) .left
+            ))
+        (λ h. omega (arith, cnt-miss (λ s. works (w s) (num e)) t h, obeys-most e m t))
+
+    pub obeys-allowed : Allowed num ready dur opens L w
+    obeys-allowed = record {
+      known = λ t i p. known t i p (rule t);
+      hours = λ t i p.
+          let r = known t i p (rule t) in
+          obeys-candidate t (r .0) (r .1) (p ∙ ap some (sym (r .2))) .hour;
+      after = λ e m t p. obeys-candidate t e m p .ripe;
+      most = obeys-most
+    }
+      where
+        known : (t i : ℕ) → w t ≡ some i → Chooses num sooner (Candidate num ready dur opens w t) L (w t)
+            → (e : E) × (e ∈ L) × (num e ≡ i)
+        known t i p (work e m q c s) = (e, m, Option·some-injective (num e) i (sym q ∙ p))
+        known t i p (rest q n) = absurd (Plans.none-some (w t) i q p)
+
+  module _ (U : Urgency num sooner) where
+    -- THE RULE IS THE LAYERS over the sorted list, so it has exactly one plan
+    pub obeys-layers : (L : List E) → Distinct num L → (w : Plan) → Obeys num ready dur opens sooner L w → (t : ℕ)
+        → w t ≡ Layers.layers num ready dur opens (sorted sooner L) t
+    obeys-layers L d w rule t =
+        obeys-is-layers num ready dur opens sooner (U .asym) (sorted sooner L)
+        (sorted-distinct sooner num L d) (sorted-ordered sooner num U L d) w
+        (obeys-members L (sorted sooner L) (sorted-mem sooner L) (mem-sorted sooner L) w rule) t
+
+    pub sorted-obeys : (L : List E) → Distinct num L
+        → Obeys num ready dur opens sooner L (Layers.layers num ready dur opens (sorted sooner L))
+    sorted-obeys L d =
+        obeys-members (sorted sooner L) L (mem-sorted sooner L) (sorted-mem sooner L)
+        (Layers.layers num ready dur opens (sorted sooner L))
+        (layers-obey (sorted sooner L) (sorted-distinct sooner num L d) (sorted-ordered sooner num U L d))
+
+    pub obeys-unique : (L : List E) → Distinct num L → (v w : Plan) → Obeys num ready dur opens sooner L v
+        → Obeys num ready dur opens sooner L w → (t : ℕ) → v t ≡ w t
+    obeys-unique L d v w p q t = obeys-layers L d v p t ∙ sym (obeys-layers L d w q t)
+
+    -- the order of the list does not matter
+    pub order-free : (L K : List E) → Distinct num L → Distinct num K → ((e : E) → e ∈ L → e ∈ K)
+        → ((e : E) → e ∈ K → e ∈ L) → (t : ℕ)
+        → Layers.layers num ready dur opens (sorted sooner L) t ≡ Layers.layers num ready dur opens (sorted sooner K) t
+    order-free L K d c to from t =
+        obeys-layers K c (Layers.layers num ready dur opens (sorted sooner L))
+        (obeys-members L K to from (Layers.layers num ready dur opens (sorted sooner L)) (sorted-obeys L d)) t
+
+    pub sorted-allowed : (L : List E) → Distinct num L
+        → Allowed num ready dur opens L (Layers.layers num ready dur opens (sorted sooner L))
+    sorted-allowed L d =
+        obeys-allowed L d (Layers.layers num ready dur opens (sorted sooner L)) (sorted-obeys L d)

@@ -2,7 +2,7 @@
 -- works, how often before a moment, and a plan with one number taken out. Assumes nothing.
 use mathlib.Core.Path.{_≡_, refl, sym, ap, _∙_}
 use mathlib.Core.Bool.{Bool, true, false}
-use mathlib.Core.Option.{Option, none, some, Option·some-injective}
+use mathlib.Core.Option.{Option, none, some, Option·none-ne-some}
 use Prim.Native.Nat.{ℕ}
 use lib.Dec.{eqb}
 use borrow.Author.Tests.{eqb-true, eq-eqb, ne-eqb}
@@ -63,6 +63,9 @@ none-busy o e = rw e
 pub none-works : (o : Option ℕ) (i : ℕ) → o ≡ none → works o i ≡ false
 unfolding works
 none-works o i e = rw e
+
+pub none-some : (o : Option ℕ) (i : ℕ) → o ≡ none → o ≡ some i → ⊥
+none-some o i p q = Option·none-ne-some i (sym p ∙ q)
 
 -- the plan w with number i taken out
 unfoldable pub without : ℕ → Plan → Plan
