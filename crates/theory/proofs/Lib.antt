@@ -7,3 +7,5 @@ pub mod Order
 pub mod Allowed
 pub mod Rule
 pub mod Obeyed
+pub mod Done
+pub mod Finish

@@ -4,7 +4,7 @@ use mathlib.Core.Logic.{_⊎_, inl, inr}
 use mathlib.Core.Bool.{Bool, true, false}
 use mathlib.Core.List.{List, [], _∷_, List·Memᴰ}
 use mathlib.Core.List.{List·Memᴰ·head as here, List·Memᴰ·tail as there}
-use Prim.Native.Nat.{ℕ}
+use Prim.Native.Nat.{ℕ, _+_}
 use Rattle.theory.proofs.Cases.{by-test}
 
 infix 50 _∈_
@@ -30,6 +30,14 @@ module _ {A : Type 0} where
           none· : (a : A) → a ∈ x ∷ L → p a ≡ false
           none· a (here q) = rw q e
           none· a (there m) = f a m
+
+  unfoldable pub sumOf : (A → ℕ) → List A → ℕ
+  sumOf f [] = 0
+  sumOf f (x ∷ L) = f x + sumOf f L
+
+  pub sum-cons : (f : A → ℕ) (x : A) (L : List A) → sumOf f (x ∷ L) ≡ f x + sumOf f L
+  unfolding sumOf
+  sum-cons f x L = refl
 
   -- no two elements have the same number
   module _ (num : A → ℕ) where

@@ -4,9 +4,10 @@ use mathlib.Core.Path.{_≡_, refl, sym, ap, _∙_}
 use mathlib.Core.Bool.{Bool, true, false}
 use mathlib.Core.List.{List, [], _∷_}
 use mathlib.Core.List.{List·Memᴰ·head as here, List·Memᴰ·tail as there}
-use Prim.Native.Nat.{ℕ}
+use Prim.Native.Nat.{ℕ, _+_}
+use native.Mathlib.Omega.{arith}
 use Rattle.theory.proofs.Cases.{by-test}
-use Rattle.theory.proofs.Lists.{_∈_, by-mem, Distinct}
+use Rattle.theory.proofs.Lists.{_∈_, by-mem, Distinct, sumOf, sum-cons}
 
 pub record Urgency {E : Type 0} (num : E → ℕ) (sooner : E → E → Bool) : Type 0 where
   pub asym : (a b : E) → sooner a b ≡ true → sooner b a ≡ true → ⊥
@@ -70,6 +71,22 @@ module _ {E : Type 0} (sooner : E → E → Bool) where
   unfolding sorted
   mem-sorted [] e m = m
   mem-sorted (x ∷ L) e m = insert-from x (sorted L) e m (λ p. here p) (λ n. there (mem-sorted L e n))
+
+  -- sorting keeps every sum
+  insert-sum : (f : E → ℕ) (x : E) (L : List E) → sumOf f (insert x L) ≡ f x + sumOf f L
+  unfolding insert
+  insert-sum f x [] = sum-cons f x []
+  insert-sum f x (y ∷ L) =
+      by-test (sooner y x)
+      (λ h. rw (insert-front x y L h) (sum-cons f x (y ∷ L)))
+      (λ h.
+          rw (insert-behind x y L h)
+          (omega (arith, sum-cons f y (insert x L), sum-cons f y L, insert-sum f x L)))
+
+  pub sorted-sum : (f : E → ℕ) (L : List E) → sumOf f (sorted L) ≡ sumOf f L
+  unfolding sorted
+  sorted-sum f [] = refl
+  sorted-sum f (x ∷ L) = omega (arith, insert-sum f x (sorted L), sum-cons f x L, sorted-sum f L)
 
   module _ (num : E → ℕ) where
     insert-distinct : (x : E) (L : List E) → ((e : E) → e ∈ L → num e ≡ num x → ⊥) → Distinct num L
