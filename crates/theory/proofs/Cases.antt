@@ -1,12 +1,9 @@
--- Going by cases: a test is true or false, a number is at most another or above it, a finite list has an element that
--- passes a test or has none. Assumes nothing.
+-- Going by cases: a test is true or false, a number is at most another or above it, the same or not. Assumes nothing.
 use mathlib.Core.Path.{_≡_, refl, sym, subst}
-use mathlib.Core.Logic.{_⊎_, inl, inr}
-use mathlib.Core.Bool.{Bool, true, false, _&&_, not}
-use mathlib.Core.Option.{Option, none, some}
+use mathlib.Core.Bool.{Bool, true, false, _&&_}
 use Prim.Native.Nat.{ℕ, _≤_, _<_}
-use lib.Dec.{leb}
-use borrow.Author.Tests.{leb-true, leb-false}
+use lib.Dec.{leb, eqb}
+use borrow.Author.Tests.{leb-true, leb-false, eqb-true, eqb-false}
 
 pub by-test {ℓ} : {P : Type ℓ} (b : Bool) → (b ≡ true → P) → (b ≡ false → P) → P
 by-test true yes· no· = yes· refl
@@ -14,6 +11,9 @@ by-test false yes· no· = no· refl
 
 pub by-le {ℓ} : {P : Type ℓ} (a b : ℕ) → (a ≤ b → P) → (b < a → P) → P
 by-le a b small large = by-test (leb a b) (λ e. small (leb-true a b e)) (λ e. large (leb-false a b e))
+
+pub by-eq {ℓ} : {P : Type ℓ} (a b : ℕ) → (a ≡ b → P) → ((a ≡ b → ⊥) → P) → P
+by-eq a b same other = by-test (eqb a b) (λ e. same (eqb-true a b e)) (λ e. other (eqb-false a b e))
 
 -- a test cannot have both outcomes
 IsTrue : Bool → Type 0

@@ -21,10 +21,15 @@ unfolding bit
 bit-le true = omega arith
 bit-le false = omega arith
 
-bit-mono : (a b : Bool) → (a ≡ true → b ≡ true) → bit a ≤ bit b
+pub bit-mono : (a b : Bool) → (a ≡ true → b ≡ true) → bit a ≤ bit b
 unfolding bit
 bit-mono false b h = omega arith
 bit-mono true b h = rw (h refl) (omega arith)
+
+pub bit-less : (a b : Bool) → (a ≡ true → ⊥) → b ≡ true → bit a < bit b
+unfolding bit
+bit-less true b h k = absurd (h refl)
+bit-less false b h k = rw k (omega arith)
 
 pub cnt-zero : (f : ℕ → Bool) → cnt f 0 ≡ 0
 unfolding cnt

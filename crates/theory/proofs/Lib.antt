@@ -9,3 +9,5 @@ pub mod Rule
 pub mod Obeyed
 pub mod Done
 pub mod Finish
+pub mod Hours
+pub mod Links

@@ -4,7 +4,8 @@ use mathlib.Core.Logic.{_⊎_, inl, inr}
 use mathlib.Core.Bool.{Bool, true, false}
 use mathlib.Core.List.{List, [], _∷_, List·Memᴰ}
 use mathlib.Core.List.{List·Memᴰ·head as here, List·Memᴰ·tail as there}
-use Prim.Native.Nat.{ℕ, _+_}
+use Prim.Native.Nat.{ℕ, _+_, _≤_, _<_}
+use native.Mathlib.Omega.{arith}
 use Rattle.theory.proofs.Cases.{by-test}
 
 infix 50 _∈_
@@ -38,6 +39,21 @@ module _ {A : Type 0} where
   pub sum-cons : (f : A → ℕ) (x : A) (L : List A) → sumOf f (x ∷ L) ≡ f x + sumOf f L
   unfolding sumOf
   sum-cons f x L = refl
+
+  pub sum-mono : (f g : A → ℕ) (L : List A) → ((a : A) → a ∈ L → f a ≤ g a) → sumOf f L ≤ sumOf g L
+  unfolding sumOf
+  sum-mono f g [] le = omega arith
+  sum-mono f g (x ∷ L) le = omega (arith, le x (here refl), sum-mono f g L (λ a m. le a (there m)))
+
+  pub sum-strict : (f g : A → ℕ) (L : List A) → ((a : A) → a ∈ L → f a ≤ g a) → (b : A) → b ∈ L → f b < g b
+      → sumOf f L < sumOf g L
+  unfolding sumOf
+  sum-strict f g (x ∷ L) le b m lt =
+      by-mem m
+      (λ p.
+          let l : f x < g x = rw p at lt in
+          omega (arith, sum-mono f g L (λ a n. le a (there n))))
+      (λ n. omega (arith, le x (here refl), sum-strict f g L (λ a k. le a (there k)) b n lt))
 
   -- no two elements have the same number
   module _ (num : A → ℕ) where

@@ -10,13 +10,13 @@ use Prim.Native.Nat.{ℕ, zero, suc, _≤_, _<_, min}
 use native.Mathlib.Omega.{arith}
 use Rattle.theory.proofs.Cases.{by-test, by-le, clash}
 use Rattle.theory.proofs.Count.{cnt, cnt-zero, cnt-hit, cnt-miss}
-use Rattle.theory.proofs.Lists.{_∈_, by-mem, Distinct, same-number}
+use Rattle.theory.proofs.Lists.{_∈_, by-mem, Distinct}
 use Rattle.theory.proofs.Order.{Urgency, Ordered, sorted, sorted-mem, mem-sorted, sorted-distinct, sorted-ordered}
 use Rattle.theory.proofs.Plans as Plans
 use Rattle.theory.proofs.Plans.{Plan, works, busy, did}
 use Rattle.theory.proofs.Layers as Layers
 use Rattle.theory.proofs.Allowed.{Allowed}
-use Rattle.theory.proofs.Rule.{Chooses, work, rest, Candidate, Obeys, moved, obeys-is-layers}
+use Rattle.theory.proofs.Rule.{Chooses, work, rest, Candidate, Obeys, moved, chosen, obeys-is-layers}
 
 module _ {E : Type 0} (num ready dur : E → ℕ) (opens : ℕ → Bool) (sooner : E → E → Bool) where
   -- one more layer obeys the rule for one more entry
@@ -115,13 +115,8 @@ module _ {E : Type 0} (num ready dur : E → ℕ) (opens : ℕ → Bool) (sooner
   module _ (L : List E) (d : Distinct num L) (w : Plan) (rule : Obeys num ready dur opens sooner L w) where
     -- who is worked on is a candidate
     pub obeys-candidate : (t : ℕ) (e : E) → e ∈ L → w t ≡ some (num e) → Candidate num ready dur opens w t e
-    obeys-candidate t e m p = go (rule t)
-      where
-        go : Chooses num sooner (Candidate num ready dur opens w t) L (w t) → Candidate num ready dur opens w t e
-        go (work f n q c s) =
-            let same : f ≡ e = same-number num L d f e n m (Option·some-injective (num f) (num e) (sym q ∙ p)) in
-            rw same at c
-        go (rest q n) = absurd (Plans.none-some (w t) (num e) q p)
+    obeys-candidate t e m p =
+        chosen num sooner (Candidate num ready dur opens w t) L d (w t) (rule t) e m p
 
     obeys-most : (e : E) → e ∈ L → (t : ℕ) → did w (num e) t ≤ dur e
     obeys-most e m zero = omega (arith, cnt-zero (λ s. works (w s) (num e)))

@@ -23,6 +23,14 @@ pub data Chooses {E : Type 0} (num : E → ℕ) (sooner : E → E → Bool) (C :
       → ((f : E) → f ∈ L → C f → (num f ≡ num e → ⊥) → sooner e f ≡ true) → Chooses num sooner C L o
   rest : o ≡ none → ((f : E) → f ∈ L → C f → ⊥) → Chooses num sooner C L o
 
+-- who is worked on is a candidate
+pub chosen : {E : Type 0} (num : E → ℕ) (sooner : E → E → Bool) (C : E → Type 0) (L : List E) → Distinct num L
+    → (o : Option ℕ) → Chooses num sooner C L o → (e : E) → e ∈ L → o ≡ some (num e) → C e
+chosen num sooner C L d o (work f n q c s) e m p =
+    let same : f ≡ e = same-number num L d f e n m (Option·some-injective (num f) (num e) (sym q ∙ p)) in
+    rw same at c
+chosen num sooner C L d o (rest q n) e m p = absurd (Plans.none-some o (num e) q p)
+
 module _ {E : Type 0} (num ready dur : E → ℕ) (opens : ℕ → Bool) where
   -- the desk is open in slot t, e is ready, and w has not finished it before
   pub record Candidate (w : Plan) (t : ℕ) (e : E) : Type 0 where
@@ -77,18 +85,14 @@ module _ {E : Type 0} (num ready dur : E → ℕ) (opens : ℕ → Bool) where
       chance = Layers.chance num ready dur opens x v
 
       worked-chance : (t : ℕ) → works (w t) (num x) ≡ true → (chance t && ltb (did w (num x) t) (dur x)) ≡ true
-      worked-chance t h = go (rule t)
-        where
-          go : Chooses num sooner (Candidate w t) (x ∷ L) (w t) → (chance t && ltb (did w (num x) t) (dur x)) ≡ true
-          go (work e m q c s) =
-              let same : e ≡ x = same-number num (x ∷ L) d e x m (here refl)
-                  (Option·some-injective (num e) (num x) (sym q ∙ Plans.works-some (w t) (num x) h)) in
-              let k : Candidate w t x = rw same at c in
-              true-and _ _
-              (Layers.chance-when num ready dur opens x v t (k .hour) (k .ripe)
-                  (Plans.none-busy (v t) (Plans.without-hit (num x) w t h)))
-              (lt-ltb (did w (num x) t) (dur x) (k .left))
-          go (rest q n) = clash h (Plans.none-works (w t) (num x) q)
+      worked-chance t h =
+          let c : Candidate w t x =
+              chosen num sooner (Candidate w t) (x ∷ L) d (w t) (rule t) x (here refl)
+              (Plans.works-some (w t) (num x) h) in
+          true-and _ _
+          (Layers.chance-when num ready dur opens x v t (c .hour) (c .ripe)
+              (Plans.none-busy (v t) (Plans.without-hit (num x) w t h)))
+          (lt-ltb (did w (num x) t) (dur x) (c .left))
 
       chance-worked : (t : ℕ) → (chance t && ltb (did w (num x) t) (dur x)) ≡ true → works (w t) (num x) ≡ true
       chance-worked t h = go (rule t)
