@@ -19,6 +19,16 @@ module _ {E : Type 0} (num ready dur : E → ℕ) (opens : ℕ → Bool) where
     pub after : (e : E) → e ∈ L → (t : ℕ) → q t ≡ some (num e) → ready e ≤ t
     pub most : (e : E) → e ∈ L → (t : ℕ) → did q (num e) t ≤ dur e
 
+  -- it matters who is in the list, and not in which order
+  pub allowed-members : (L K : List E) → ((e : E) → e ∈ L → e ∈ K) → ((e : E) → e ∈ K → e ∈ L) → (q : Plan)
+      → Allowed L q → Allowed K q
+  allowed-members L K to from q a = record {
+    known = λ t i h. let r = a .known t i h in (r .0, to (r .0) (r .1), r .2);
+    hours = a .hours;
+    after = λ e m. a .after e (from e m);
+    most = λ e m. a .most e (from e m)
+  }
+
   module _ (x : E) (L : List E) (d : Distinct num (x ∷ L)) (q : Plan) (a : Allowed (x ∷ L) q) where
     -- what is left of q works where q works
     left-over : (t i : ℕ) → without (num x) q t ≡ some i → (q t ≡ some i) × (i ≡ num x → ⊥)

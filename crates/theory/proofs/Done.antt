@@ -2,17 +2,18 @@
 -- each entry has its whole duration. Where the desk is always open that is the latest ready moment plus the durations.
 -- Assumes nothing.
 use mathlib.Core.Path.{_≡_, refl, sym, ap, _∙_}
-use mathlib.Core.Bool.{Bool, true, false, _||_}
+use mathlib.Core.Bool.{Bool, true, false}
 use mathlib.Core.List.{List, [], _∷_}
 use mathlib.Core.List.{List·Memᴰ·head as here, List·Memᴰ·tail as there}
 use Prim.Native.Nat.{ℕ, _+_, _≤_, _<_, min}
 use native.Mathlib.Omega.{arith}
-use Rattle.theory.proofs.Cases.{by-test, by-le, clash}
-use Rattle.theory.proofs.Count.{cnt, cnt-gain, cnt-or, cnt-mono, cnt-false, cnt-true, cnt-ext}
+use Rattle.theory.proofs.Cases.{by-le}
+use Rattle.theory.proofs.Count.{cnt, cnt-mono, cnt-false, cnt-ext}
 use Rattle.theory.proofs.Lists.{_∈_, by-mem, Distinct, sumOf, sum-cons}
 use Rattle.theory.proofs.Order.{Urgency, sorted, sorted-sum, sorted-mem, mem-sorted, sorted-distinct}
 use Rattle.theory.proofs.Plans.{Plan, works, busy, did}
 use Rattle.theory.proofs.Layers as Layers
+use Rattle.theory.proofs.Hours.{cnt-always}
 use Rattle.theory.proofs.Rule.{Obeys}
 use Rattle.theory.proofs.Obeyed.{obeys-layers}
 
@@ -27,25 +28,12 @@ module _ {E : Type 0} (num ready dur : E → ℕ) (opens : ℕ → Bool) where
   busy-most (x ∷ L) t =
       omega (arith, Layers.cnt-layer-busy num ready dur opens x (layers L) t, busy-most L t, sum-cons dur x L)
 
-  -- the slots that x can use where w goes first: all open ones since R that w leaves free
   chances : (x : E) (w : Plan) (R t : ℕ) → ready x ≤ R
       → cnt opens t ≤ cnt opens R + cnt (λ s. busy (w s)) t + cnt (Layers.chance num ready dur opens x w) t
   chances x w R t h =
       by-le R t
-      (λ k.
-          omega
-          ( arith
-          , cnt-gain opens (λ s. busy (w s) || Layers.chance num ready dur opens x w s) R t k (λ s a b o. free s a o)
-          , cnt-or (λ s. busy (w s)) (Layers.chance num ready dur opens x w) t
-            (λ s a b c. clash b (Layers.chance-free num ready dur opens x w s c))
-          ))
+      (λ k. omega (arith, Layers.chance-fills num ready dur opens x w R t h k))
       (λ k. omega (arith, cnt-mono opens t R (omega arith)))
-    where
-      free : (s : ℕ) → R ≤ s → opens s ≡ true → (busy (w s) || Layers.chance num ready dur opens x w s) ≡ true
-      free s a o =
-          by-test (busy (w s))
-          (λ b. rw b)
-          (λ b. rw (b, Layers.chance-when num ready dur opens x w s o (omega arith) b))
 
   pub layers-done : (L : List E) → Distinct num L → (R t : ℕ) → ((e : E) → e ∈ L → ready e ≤ R)
       → cnt opens R + sumOf dur L ≤ cnt opens t → (e : E) → e ∈ L → did (layers L) (num e) t ≡ dur e
@@ -82,11 +70,4 @@ module _ {E : Type 0} (num ready dur : E → ℕ) (opens : ℕ → Bool) where
     pub obeys-done-always : ((s : ℕ) → opens s ≡ true) → (R t : ℕ) → ((e : E) → e ∈ L → ready e ≤ R)
         → R + sumOf dur L ≤ t → (e : E) → e ∈ L → did w (num e) t ≡ dur e
     obeys-done-always always R t ripe enough =
-        obeys-done R t ripe
-        (omega
-        ( arith
-        , cnt-true R
-        , cnt-true t
-        , cnt-ext opens (λ s. true) R (λ k h. always k)
-        , cnt-ext opens (λ s. true) t (λ k h. always k)
-        ))
+        obeys-done R t ripe (omega (arith, cnt-always opens always R, cnt-always opens always t))

@@ -10,8 +10,8 @@ use Prim.Native.Nat.{ℕ, _+_, _≤_, _<_, min}
 use native.Mathlib.Omega.{arith}
 use lib.Dec.{leb, ltb}
 use borrow.Author.Tests.{leb-true, le-leb, lt-ltb, ltb-true, not-true}
-use Rattle.theory.proofs.Cases.{by-test, clash, and-true, test-ext}
-use Rattle.theory.proofs.Count.{cnt, cnt-ext, cnt-or, firstN, cnt-firstN}
+use Rattle.theory.proofs.Cases.{by-test, clash, and-true, or-false}
+use Rattle.theory.proofs.Count.{cnt, cnt-ext, cnt-gain, cnt-or, firstN, cnt-firstN}
 use Rattle.theory.proofs.Lists.{_∈_, Distinct}
 use Rattle.theory.proofs.Plans.{
   Plan,
@@ -26,10 +26,6 @@ use Rattle.theory.proofs.Plans.{
   busy-none,
   works-busy,
 }
-
-or-false : (b : Bool) → b ≡ (b || false)
-or-false true = refl
-or-false false = refl
 
 module _ {E : Type 0} (num ready dur : E → ℕ) (opens : ℕ → Bool) where
   -- the slots that x could use where the plan w goes first
@@ -93,7 +89,7 @@ module _ {E : Type 0} (num ready dur : E → ℕ) (opens : ℕ → Bool) where
         (λ h.
             some-busy (layer x w t) (num x) (layer-hit h)
             ∙ sym (rw (h, chance-free (takes-chance h))))
-        (λ h. rw (layer-miss h, h) (or-false (busy (w t))))
+        (λ h. rw (layer-miss h, h) (sym (or-false (busy (w t)))))
 
     pub layer-self : ((s : ℕ) → works (w s) (num x) ≡ false) → works (layer x w t) (num x) ≡ takes x w t
     layer-self fresh =
@@ -130,6 +126,21 @@ module _ {E : Type 0} (num ready dur : E → ℕ) (opens : ℕ → Bool) where
       ∙ cnt-or (λ s. busy (w s)) (takes x w) t
         (λ k h b c. clash b (chance-free x w k (takes-chance x w k c)))
       ∙ ap (λ (n : ℕ). cnt (λ s. busy (w s)) t + n) (cnt-firstN (dur x) (chance x w) t)
+
+  -- since x is ready, every open slot is busy below or one that x can use
+  pub chance-fills : (x : E) (w : Plan) (r t : ℕ) → ready x ≤ r → r ≤ t
+      → cnt opens t + (cnt (λ s. busy (w s)) r + cnt (chance x w) r)
+      ≤ cnt opens r + (cnt (λ s. busy (w s)) t + cnt (chance x w) t)
+  chance-fills x w r t h k =
+      omega (arith, cnt-gain opens (λ s. busy (w s) || chance x w s) r t k fills, both r, both t)
+    where
+      fills : (s : ℕ) → r ≤ s → s < t → opens s ≡ true → (busy (w s) || chance x w s) ≡ true
+      fills s a b o =
+          by-test (busy (w s))
+          (λ e. rw e)
+          (λ e. rw (e, chance-when x w s o (omega arith) e))
+      both : (u : ℕ) → cnt (λ s. busy (w s) || chance x w s) u ≡ cnt (λ s. busy (w s)) u + cnt (chance x w) u
+      both u = cnt-or (λ s. busy (w s)) (chance x w) u (λ s a b c. clash b (chance-free x w s c))
 
   pub layers-cons : (x : E) (L : List E) (t : ℕ) → layers (x ∷ L) t ≡ layer x (layers L) t
   unfolding layers

@@ -7,7 +7,9 @@ pub mod Order
 pub mod Allowed
 pub mod Rule
 pub mod Obeyed
+pub mod Hours
 pub mod Done
 pub mod Finish
-pub mod Hours
 pub mod Links
+pub mod Work
+pub mod Dominance

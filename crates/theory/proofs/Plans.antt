@@ -1,13 +1,13 @@
 -- A plan of a desk says for each slot the number worked on, or that the desk rests. Here are the words for plans: who
 -- works, how often before a moment, and a plan with one number taken out. Assumes nothing.
 use mathlib.Core.Path.{_≡_, refl, sym, ap, _∙_}
-use mathlib.Core.Bool.{Bool, true, false}
+use mathlib.Core.Bool.{Bool, true, false, _||_}
 use mathlib.Core.Option.{Option, none, some, Option·none-ne-some}
-use Prim.Native.Nat.{ℕ}
+use Prim.Native.Nat.{ℕ, _+_}
 use lib.Dec.{eqb}
 use borrow.Author.Tests.{eqb-true, eq-eqb, ne-eqb}
-use Rattle.theory.proofs.Cases.{by-test, clash}
-use Rattle.theory.proofs.Count.{cnt, cnt-ext}
+use Rattle.theory.proofs.Cases.{by-test, clash, or-false}
+use Rattle.theory.proofs.Count.{cnt, cnt-ext, cnt-or}
 
 abbrev pub Plan : Type 0
 Plan = ℕ → Option ℕ
@@ -97,3 +97,18 @@ module _ (i : ℕ) (w : Plan) (t : ℕ) where
 pub did-without : (i : ℕ) (w : Plan) (j : ℕ) → (j ≡ i → ⊥) → (t : ℕ) → did (without i w) j t ≡ did w j t
 did-without i w j apart t =
     cnt-ext (λ s. works (without i w s) j) (λ s. works (w s) j) t (λ k h. without-other i w k j apart)
+
+-- the busy slots of a plan: those of i, and the others
+pub busy-without : (i : ℕ) (w : Plan) (t : ℕ)
+    → cnt (λ s. busy (w s)) t ≡ cnt (λ s. busy (without i w s)) t + did w i t
+busy-without i w t =
+    cnt-ext (λ s. busy (w s)) (λ s. busy (without i w s) || works (w s) i) t (λ k h. point k)
+    ∙ cnt-or (λ s. busy (without i w s)) (λ s. works (w s) i) t (λ k h a b. clash a (gone k b))
+  where
+    gone : (k : ℕ) → works (w k) i ≡ true → busy (without i w k) ≡ false
+    gone k h = none-busy (without i w k) (without-hit i w k h)
+    point : (k : ℕ) → busy (w k) ≡ (busy (without i w k) || works (w k) i)
+    point k =
+        by-test (works (w k) i)
+        (λ h. rw (h, gone k h) (works-busy (w k) i h))
+        (λ h. rw (h, without-miss i w k h) (sym (or-false (busy (w k)))))
