@@ -11,7 +11,7 @@ use native.Mathlib.Omega.{arith}
 use Rattle.theory.proofs.Cases.{by-test, by-le, clash}
 use Rattle.theory.proofs.Count.{cnt, cnt-gain, cnt-imp, cnt-ext, cnt-or, cnt-false}
 use Rattle.theory.proofs.Lists.{_∈_, by-mem, Distinct}
-use Rattle.theory.proofs.Order.{Urgency, Ordered, sorted, sorted-mem, mem-sorted, sorted-distinct, sorted-ordered}
+use Rattle.theory.proofs.Order.{Urgency, Ordered, UpClosed, sorted, sorted-mem, mem-sorted, sorted-distinct, sorted-ordered}
 use Rattle.theory.proofs.Plans as Plans
 use Rattle.theory.proofs.Plans.{Plan, works, busy, did, without}
 use Rattle.theory.proofs.Layers as Layers
@@ -80,10 +80,6 @@ module _ {E : Type 0} (num ready dur : E → ℕ) (opens : ℕ → Bool) where
               , Layers.chance-fills num ready dur opens x (layers L) (ready x) t (omega arith) (omega arith)
               , Layers.cnt-layer-busy num ready dur opens x (layers L) t
               )))
-
-  -- with every entry of the set the sooner ones are in it
-  abbrev pub UpClosed : (E → E → Bool) → List E → (E → Bool) → Type 0
-  UpClosed sooner L X = (e f : E) → e ∈ L → f ∈ L → sooner e f ≡ true → X f ≡ true → X e ≡ true
 
   pub layers-dominate : (sooner : E → E → Bool) (L : List E) → Distinct num L → Ordered sooner L → (X : E → Bool)
       → UpClosed sooner L X → (q : Plan) → Allowed num ready dur opens L q → (t : ℕ)

@@ -13,3 +13,5 @@ pub mod Finish
 pub mod Links
 pub mod Work
 pub mod Dominance
+pub mod Integers
+pub mod Lateness

@@ -20,6 +20,10 @@ module _ {E : Type 0} (sooner : E → E → Bool) where
   Ordered [] = Unit {0}
   Ordered (x ∷ L) = ((f : E) → f ∈ L → sooner f x ≡ true) × Ordered L
 
+  -- with every entry of the set the sooner ones are in it
+  abbrev pub UpClosed : List E → (E → Bool) → Type 0
+  UpClosed L X = (e f : E) → e ∈ L → f ∈ L → sooner e f ≡ true → X f ≡ true → X e ≡ true
+
   unfoldable pub insert : E → List E → List E
   insert x [] = x ∷ []
   insert x (y ∷ L) = elim (sooner y x) [ true ↦ x ∷ y ∷ L | false ↦ y ∷ insert x L ]
