@@ -1,0 +1,2 @@
+-- Nothing is defined here but the notions that the laws speak of.
+pub mod Leads

@@ -1,0 +1,21 @@
+-- The definitions of the desk planner, one file for each section of the rules page, in the page's order.
+pub mod Words
+pub mod Job
+pub mod File
+pub mod Reading
+pub mod Rings
+pub mod Tables
+pub mod Hours
+pub mod Moments
+pub mod Urgency
+pub mod Runs
+pub mod Bytes
+pub mod Judgement
+pub mod Plan
+pub mod Entries
+pub mod Blocks
+pub mod BlockSheet
+pub mod DeskRuns
+pub mod Listing
+pub mod Hex
+pub mod Sheets
