@@ -7,10 +7,12 @@ use mathlib.Core.Option.{Option, none, some, Option·some-injective}
 use mathlib.Core.List.{List, [], _∷_}
 use mathlib.Core.List.{List·Memᴰ·head as here, List·Memᴰ·tail as there}
 use Prim.Native.Nat.{ℕ, _≤_}
-use Rattle.theory.proofs.Cases.{by-test, clash}
+use Rattle.laws.proofs.Words.{by-test}
+use Rattle.theory.proofs.Cases.{clash}
 use Rattle.theory.proofs.Lists.{_∈_, by-mem, Distinct}
 use Rattle.theory.proofs.Plans as Plans
-use Rattle.theory.proofs.Plans.{Plan, works, busy, did, without}
+use Rattle.rules.specs.Words.{isIt}
+use Rattle.theory.proofs.Plans.{Plan, busy, did, without}
 
 module _ {E : Type 0} (num ready dur : E → ℕ) (opens : ℕ → Bool) where
   pub record Allowed (L : List E) (q : Plan) : Type 0 where
@@ -30,10 +32,10 @@ module _ {E : Type 0} (num ready dur : E → ℕ) (opens : ℕ → Bool) where
   }
 
   module _ (x : E) (L : List E) (d : Distinct num (x ∷ L)) (q : Plan) (a : Allowed (x ∷ L) q) where
-    -- what is left of q works where q works
+    -- what is left of q isIt where q isIt
     left-over : (t i : ℕ) → without (num x) q t ≡ some i → (q t ≡ some i) × (i ≡ num x → ⊥)
     left-over t i h =
-        by-test (works (q t) (num x))
+        by-test (isIt (q t) (num x))
         (λ k. absurd (Plans.none-some (without (num x) q t) i (Plans.without-hit (num x) q t k) h))
         (λ k.
             let e : q t ≡ some i = sym (Plans.without-miss (num x) q t k) ∙ h in

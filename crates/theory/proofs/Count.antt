@@ -6,7 +6,8 @@ use Prim.Native.Nat.{ℕ, zero, suc, _+_, _-_, _≤_, _<_, min}
 use native.Mathlib.Omega.{arith}
 use lib.Dec.{leb, ltb}
 use borrow.Author.Tests.{ltb-true, ltb-false, lt-ltb, le-ltb}
-use Rattle.theory.proofs.Cases.{by-test, by-le, clash}
+use Rattle.laws.proofs.Words.{by-test}
+use Rattle.theory.proofs.Cases.{by-le, clash}
 
 unfoldable pub bit : Bool → ℕ
 bit true = 1

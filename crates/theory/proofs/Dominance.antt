@@ -8,12 +8,14 @@ use mathlib.Core.List.{List, [], _∷_}
 use mathlib.Core.List.{List·Memᴰ·head as here, List·Memᴰ·tail as there}
 use Prim.Native.Nat.{ℕ, _+_, _≤_, _<_, min}
 use native.Mathlib.Omega.{arith}
-use Rattle.theory.proofs.Cases.{by-test, by-le, clash}
+use Rattle.laws.proofs.Words.{by-test}
+use Rattle.theory.proofs.Cases.{by-le, clash}
 use Rattle.theory.proofs.Count.{cnt, cnt-gain, cnt-imp, cnt-ext, cnt-or, cnt-false}
 use Rattle.theory.proofs.Lists.{_∈_, by-mem, Distinct}
 use Rattle.theory.proofs.Order.{Urgency, Ordered, UpClosed, sorted, sorted-mem, mem-sorted, sorted-distinct, sorted-ordered}
 use Rattle.theory.proofs.Plans as Plans
-use Rattle.theory.proofs.Plans.{Plan, works, busy, did, without}
+use Rattle.rules.specs.Words.{isIt}
+use Rattle.theory.proofs.Plans.{Plan, busy, did, without}
 use Rattle.theory.proofs.Layers as Layers
 use Rattle.theory.proofs.Allowed.{Allowed, allowed-without, allowed-members}
 use Rattle.theory.proofs.Rule.{Obeys}
@@ -28,9 +30,9 @@ module _ {E : Type 0} (num ready dur : E → ℕ) (opens : ℕ → Bool) where
   not-yet : (x : E) (L : List E) (q : Plan) → Allowed num ready dur opens (x ∷ L) q → (t : ℕ) → t ≤ ready x
       → did q (num x) t ≡ 0
   not-yet x L q a t h =
-      cnt-false (λ s. works (q s) (num x)) t
+      cnt-false (λ s. isIt (q s) (num x)) t
       (λ k l.
-          by-test (works (q k) (num x))
+          by-test (isIt (q k) (num x))
           (λ e. absurd (omega (arith, a .after x (here refl) k (Plans.works-some (q k) (num x) e))))
           (λ e. e))
 
@@ -145,4 +147,4 @@ module _ {E : Type 0} (num ready dur : E → ℕ) (opens : ℕ → Bool) where
       same : (o p : Option ℕ) → o ≡ p → on num X L o ≡ on num X K p
       same o p e =
           on-ext num X L K o p (λ f m z. sorted-mem sooner L f m) (mem-sorted sooner L)
-          (λ f m z. ap (λ r. works r (num f)) e)
+          (λ f m z. ap (λ r. isIt r (num f)) e)

@@ -11,7 +11,8 @@ use Rattle.theory.proofs.Cases.{by-le}
 use Rattle.theory.proofs.Count.{cnt, cnt-mono, cnt-false, cnt-ext}
 use Rattle.theory.proofs.Lists.{_∈_, by-mem, Distinct, sumOf, sum-cons}
 use Rattle.theory.proofs.Order.{Urgency, sorted, sorted-sum, sorted-mem, mem-sorted, sorted-distinct}
-use Rattle.theory.proofs.Plans.{Plan, works, busy, did}
+use Rattle.rules.specs.Words.{isIt}
+use Rattle.theory.proofs.Plans.{Plan, busy, did}
 use Rattle.theory.proofs.Layers as Layers
 use Rattle.theory.proofs.Hours.{cnt-always}
 use Rattle.theory.proofs.Rule.{Obeys}
@@ -60,8 +61,8 @@ module _ {E : Type 0} (num ready dur : E → ℕ) (opens : ℕ → Bool) where
     pub obeys-done : (R t : ℕ) → ((e : E) → e ∈ L → ready e ≤ R) → cnt opens R + sumOf dur L ≤ cnt opens t
         → (e : E) → e ∈ L → did w (num e) t ≡ dur e
     obeys-done R t ripe enough e m =
-        cnt-ext (λ s. works (w s) (num e)) (λ s. works (layers (sorted sooner L) s) (num e)) t
-        (λ k h. ap (λ o. works o (num e)) (obeys-layers num ready dur opens sooner U L d w rule k))
+        cnt-ext (λ s. isIt (w s) (num e)) (λ s. isIt (layers (sorted sooner L) s) (num e)) t
+        (λ k h. ap (λ o. isIt o (num e)) (obeys-layers num ready dur opens sooner U L d w rule k))
         ∙ layers-done (sorted sooner L) (sorted-distinct sooner num L d) R t
           (λ f n. ripe f (mem-sorted sooner L f n))
           (omega (arith, sorted-sum sooner dur L))

@@ -8,10 +8,12 @@ use native.Mathlib.Omega.{arith}
 use native.Mathlib.Nat.{le-antisymm}
 use lib.Dec.{ltb}
 use borrow.Author.Tests.{ltb-true, ltb-false, lt-ltb, le-ltb}
-use Rattle.theory.proofs.Cases.{by-test, by-le, clash}
+use Rattle.laws.proofs.Words.{by-test}
+use Rattle.theory.proofs.Cases.{by-le, clash}
 use Rattle.theory.proofs.Count.{cnt, cnt-zero, cnt-hit, cnt-miss, cnt-mono, cnt-ext, cnt-true, cnt-le}
 use Rattle.theory.proofs.Plans as Plans
-use Rattle.theory.proofs.Plans.{Plan, works, did}
+use Rattle.rules.specs.Words.{isIt}
+use Rattle.theory.proofs.Plans.{Plan, did}
 
 -- c is the first moment at which i has had d slots
 pub record Finish (w : Plan) (i d c : ℕ) : Type 0 where
@@ -61,20 +63,20 @@ module _ (w : Plan) (i d : ℕ) where
       u = λ t. ltb (did w i t) d
       down : (s t : ℕ) → s ≤ t → u t ≡ true → u s ≡ true
       down s t a b =
-          lt-ltb (did w i s) d (omega (arith, ltb-true (did w i t) d b, cnt-mono (λ k. works (w k) i) s t a))
+          lt-ltb (did w i s) d (omega (arith, ltb-true (did w i t) d b, cnt-mono (λ k. isIt (w k) i) s t a))
 
   pub finish-unique : (c e : ℕ) → Finish w i d c → Finish w i d e → c ≡ e
   finish-unique c e f g = le-antisymm (f .first e (g .done)) (g .first c (f .done))
 
   -- one past the last slot worked
   pub finish-last : (c : ℕ) → Finish w i d c → 1 ≤ d → (k : ℕ) × (c ≡ suc k) × (w k ≡ some i)
-  finish-last zero f h = absurd (omega (arith, f .done, cnt-zero (λ s. works (w s) i)))
+  finish-last zero f h = absurd (omega (arith, f .done, cnt-zero (λ s. isIt (w s) i)))
   finish-last (suc k) f h =
-      by-test (works (w k) i)
+      by-test (isIt (w k) i)
       (λ e. (k, refl, Plans.works-some (w k) i e))
       (λ e.
           absurd
-          (omega (arith, f .first k (omega (arith, f .done, cnt-miss (λ s. works (w s) i) k e)))))
+          (omega (arith, f .first k (omega (arith, f .done, cnt-miss (λ s. isIt (w s) i) k e)))))
 
   pub finish-over : (c : ℕ) → Finish w i d c → ((t : ℕ) → did w i t ≤ d) → (t : ℕ) → c ≤ t → w t ≡ some i → ⊥
   finish-over c f most t h e =
@@ -82,6 +84,6 @@ module _ (w : Plan) (i d : ℕ) where
       ( arith
       , f .done
       , most (suc t)
-      , cnt-hit (λ s. works (w s) i) t (Plans.some-works (w t) i e)
-      , cnt-mono (λ s. works (w s) i) c t h
+      , cnt-hit (λ s. isIt (w s) i) t (Plans.some-works (w t) i e)
+      , cnt-mono (λ s. isIt (w s) i) c t h
       )

@@ -11,13 +11,15 @@ use native.Mathlib.Omega.{arith}
 use lib.Dec.{ltb}
 use lib.IntN.{ℤ, pos, _-ℤ_}
 use lib.Signed.{leZ}
-use borrow.Author.Tests.{ltb-true, ltb-false}
-use Rattle.theory.proofs.Cases.{by-test, by-le, and-true}
+use borrow.Author.Tests.{ltb-true, ltb-false, le-leb}
+use Rattle.laws.proofs.Words.{by-test, and-true, sum-lt, sum-le}
+use Rattle.theory.proofs.Cases.{by-le}
 use Rattle.theory.proofs.Count.{cnt, cnt-mono}
-use Rattle.theory.proofs.Lists.{_∈_, find, Distinct, sumOf, sum-mono, sum-strict}
+use Rattle.theory.proofs.Lists.{_∈_, find, Distinct, sumOf}
 use Rattle.theory.proofs.Order.{Urgency, UpClosed}
-use Rattle.theory.proofs.Integers as Integers
-use Rattle.theory.proofs.Plans.{Plan, works, did}
+use Rattle.laws.proofs.Signed.{up, dn, minus, leZ-le, le-leZ}
+use Rattle.rules.specs.Words.{isIt}
+use Rattle.theory.proofs.Plans.{Plan, did}
 use Rattle.theory.proofs.Allowed.{Allowed}
 use Rattle.theory.proofs.Rule.{Obeys}
 use Rattle.theory.proofs.Obeyed.{obeys-allowed}
@@ -25,20 +27,17 @@ use Rattle.theory.proofs.Finish.{Finish, finish-last}
 use Rattle.theory.proofs.Work.{on, part, part-true, part-mono, work-sum}
 use Rattle.theory.proofs.Dominance.{obeys-dominates}
 
+leZ-trans : (x y z : ℤ) → leZ x y ≡ true → leZ y z ≡ true → leZ x z ≡ true
+leZ-trans x y z h k = le-leZ x z (omega (arith, leZ-le x y h, leZ-le y z k))
+
+leZ-refl : (z : ℤ) → leZ z z ≡ true
+leZ-refl z = le-leZ z z (omega arith)
+
 -- a later finish against an earlier latest moment is a greater lateness
 late-mono : (b c : ℕ) (y z : ℤ) → b ≤ c → leZ z y ≡ true → leZ (pos b -ℤ y) (pos c -ℤ z) ≡ true
 late-mono b c y z h k =
-    Integers.code-le (pos b -ℤ y) (pos c -ℤ z)
-    (omega
-    ( arith
-    , Integers.le-code z y k
-    , Integers.minus-code (pos b) y
-    , Integers.minus-code (pos c) z
-    , Integers.up-pos b
-    , Integers.up-pos c
-    , Integers.dn-pos b
-    , Integers.dn-pos c
-    ))
+    le-leZ (pos b -ℤ y) (pos c -ℤ z)
+    (omega (arith, leZ-le z y k, leZ-le (pos b) (pos c) (le-leb b c h), minus (pos b) y, minus (pos c) z))
 
 module _ {E : Type 0} (num ready dur : E → ℕ) (opens : ℕ → Bool) (sooner : E → E → Bool) (U : Urgency num sooner)
     (L : List E) (d : Distinct num L) (w : Plan) (rule : Obeys num ready dur opens sooner L w)
@@ -60,12 +59,12 @@ module _ {E : Type 0} (num ready dur : E → ℕ) (opens : ℕ → Bool) (sooner
         , work-sum num X L d w t
         , work-sum num X L d q t
         , obeys-dominates num ready dur opens sooner U L d w rule X up q a t
-        , sum-strict (λ f. part (X f) (did w (num f) t)) (λ f. part (X f) (dur f)) L
+        , sum-lt (λ f. part (X f) (did w (num f) t)) (λ f. part (X f) (dur f)) L
           (λ f n. part-mono (X f) (did w (num f) t) (dur f)
               (λ z. obeys-allowed num ready dur opens sooner L d w rule .most f n t))
           e m
           (omega (arith, part-true (X e) (did w (num e) t) h, part-true (X e) (dur e) h))
-        , sum-mono (λ f. part (X f) (dur f)) (λ f. part (X f) (did q (num f) t)) L
+        , sum-le (λ f. part (X f) (dur f)) (λ f. part (X f) (did q (num f) t)) L
           (λ f n. part-mono (X f) (dur f) (did q (num f) t)
               (λ z. ltb-false (did q (num f) t) (dur f) (rw z at (none· f n))))
         ))
@@ -93,7 +92,7 @@ module _ {E : Type 0} (num ready dur : E → ℕ) (opens : ℕ → Bool) (sooner
             , l .1
             , b .3
             , done (b .0) (b .1) .done
-            , cnt-mono (λ s. works (q s) (num (b .0))) (finish (b .0)) (l .0) (omega (arith, l .1))
+            , cnt-mono (λ s. isIt (q s) (num (b .0))) (finish (b .0)) (l .0) (omega (arith, l .1))
             )))
       )
 
@@ -107,13 +106,13 @@ module _ {E : Type 0} (num ready dur : E → ℕ) (opens : ℕ → Bool) (sooner
         → (f : E) × (f ∈ L) × (leZ (pos (finish e) -ℤ latest e) (pos (other f) -ℤ latest f) ≡ true)
     later-one e m =
         let r = as-late some-work (λ f. leZ (latest f) (latest e))
-            (λ x y i j h k. Integers.le-trans (latest x) (latest y) (latest e) (sooner-latest x y i j h) k)
-            other others e m (Integers.le-refl (latest e)) (finish e) (finishes e m) in
+            (λ x y i j h k. leZ-trans (latest x) (latest y) (latest e) (sooner-latest x y i j h) k)
+            other others e m (leZ-refl (latest e)) (finish e) (finishes e m) in
         (r .0, r .1, late-mono (finish e) (other (r .0)) (latest e) (latest (r .0)) (r .3) (r .2))
 
     pub no-smaller : (bound : ℤ) → ((f : E) → f ∈ L → leZ (pos (other f) -ℤ latest f) bound ≡ true)
         → (e : E) → e ∈ L → leZ (pos (finish e) -ℤ latest e) bound ≡ true
     no-smaller bound under e m =
         let r = later-one e m in
-        Integers.le-trans (pos (finish e) -ℤ latest e) (pos (other (r .0)) -ℤ latest (r .0)) bound
+        leZ-trans (pos (finish e) -ℤ latest e) (pos (other (r .0)) -ℤ latest (r .0)) bound
         (r .2) (under (r .0) (r .1))

@@ -10,22 +10,12 @@ use Prim.Native.Nat.{ℕ, _+_, _≤_, _<_, min}
 use native.Mathlib.Omega.{arith}
 use lib.Dec.{leb, ltb}
 use borrow.Author.Tests.{leb-true, le-leb, lt-ltb, ltb-true, not-true}
-use Rattle.theory.proofs.Cases.{by-test, clash, and-true, or-false}
+use Rattle.laws.proofs.Words.{by-test, and-true}
+use Rattle.theory.proofs.Cases.{clash, or-rest}
 use Rattle.theory.proofs.Count.{cnt, cnt-ext, cnt-gain, cnt-or, firstN, cnt-firstN}
 use Rattle.theory.proofs.Lists.{_∈_, Distinct}
-use Rattle.theory.proofs.Plans.{
-  Plan,
-  works,
-  busy,
-  did,
-  works-some,
-  some-works,
-  other-works,
-  none-works,
-  some-busy,
-  busy-none,
-  works-busy,
-}
+use Rattle.rules.specs.Words.{isIt}
+use Rattle.theory.proofs.Plans.{Plan, busy, did, works-some, some-works, other-works, none-works, some-busy, busy-none, works-busy}
 
 module _ {E : Type 0} (num ready dur : E → ℕ) (opens : ℕ → Bool) where
   -- the slots that x could use where the plan w goes first
@@ -89,15 +79,15 @@ module _ {E : Type 0} (num ready dur : E → ℕ) (opens : ℕ → Bool) where
         (λ h.
             some-busy (layer x w t) (num x) (layer-hit h)
             ∙ sym (rw (h, chance-free (takes-chance h))))
-        (λ h. rw (layer-miss h, h) (sym (or-false (busy (w t)))))
+        (λ h. rw (layer-miss h, h) (sym (or-rest (busy (w t)))))
 
-    pub layer-self : ((s : ℕ) → works (w s) (num x) ≡ false) → works (layer x w t) (num x) ≡ takes x w t
+    pub layer-self : ((s : ℕ) → isIt (w s) (num x) ≡ false) → isIt (layer x w t) (num x) ≡ takes x w t
     layer-self fresh =
         by-test (takes x w t)
         (λ h. some-works (layer x w t) (num x) (layer-hit h) ∙ sym h)
         (λ h. rw (layer-miss h, h) (fresh t))
 
-    pub layer-other : (i : ℕ) → (i ≡ num x → ⊥) → works (layer x w t) i ≡ works (w t) i
+    pub layer-other : (i : ℕ) → (i ≡ num x → ⊥) → isIt (layer x w t) i ≡ isIt (w t) i
     layer-other i apart =
         by-test (takes x w t)
         (λ h.
@@ -106,16 +96,16 @@ module _ {E : Type 0} (num ready dur : E → ℕ) (opens : ℕ → Bool) where
         (λ h. rw (layer-miss h))
 
   -- x has had min (slots it could use) (its duration); the others have had what they had
-  pub did-layer-self : (x : E) (w : Plan) → ((s : ℕ) → works (w s) (num x) ≡ false) → (t : ℕ)
+  pub did-layer-self : (x : E) (w : Plan) → ((s : ℕ) → isIt (w s) (num x) ≡ false) → (t : ℕ)
       → did (layer x w) (num x) t ≡ min (cnt (chance x w) t) (dur x)
   unfolding takes
   did-layer-self x w fresh t =
-      cnt-ext (λ s. works (layer x w s) (num x)) (takes x w) t (λ k h. layer-self x w k fresh)
+      cnt-ext (λ s. isIt (layer x w s) (num x)) (takes x w) t (λ k h. layer-self x w k fresh)
       ∙ cnt-firstN (dur x) (chance x w) t
 
   pub did-layer-other : (x : E) (w : Plan) (i : ℕ) → (i ≡ num x → ⊥) → (t : ℕ) → did (layer x w) i t ≡ did w i t
   did-layer-other x w i apart t =
-      cnt-ext (λ s. works (layer x w s) i) (λ s. works (w s) i) t (λ k h. layer-other x w k i apart)
+      cnt-ext (λ s. isIt (layer x w s) i) (λ s. isIt (w s) i) t (λ k h. layer-other x w k i apart)
 
   -- the busy slots of a layer are those below it and those it takes
   pub cnt-layer-busy : (x : E) (w : Plan) (t : ℕ)
@@ -147,8 +137,8 @@ module _ {E : Type 0} (num ready dur : E → ℕ) (opens : ℕ → Bool) where
   layers-cons x L t = refl
 
   -- a number of no entry is never worked on
-  pub layers-fresh : (L : List E) (i : ℕ) → ((e : E) → e ∈ L → num e ≡ i → ⊥) → (t : ℕ) → works (layers L t) i ≡ false
-  unfolding layers works
+  pub layers-fresh : (L : List E) (i : ℕ) → ((e : E) → e ∈ L → num e ≡ i → ⊥) → (t : ℕ) → isIt (layers L t) i ≡ false
+  unfolding layers isIt
   layers-fresh [] i apart t = refl
   layers-fresh (x ∷ L) i apart t =
       layer-other x (layers L) t i (λ e. apart x (here refl) (sym e))

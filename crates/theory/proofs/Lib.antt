@@ -13,5 +13,4 @@ pub mod Finish
 pub mod Links
 pub mod Work
 pub mod Dominance
-pub mod Integers
 pub mod Lateness

@@ -11,12 +11,14 @@ use Prim.Native.Nat.{ℕ, zero, suc, _+_, _≤_, _<_}
 use native.Mathlib.Omega.{arith}
 use lib.Dec.{ltb}
 use borrow.Author.Tests.{ltb-true, ltb-false}
-use Rattle.theory.proofs.Cases.{by-test, by-le, by-eq, and-true}
+use Rattle.laws.proofs.Words.{by-test, and-true, sum-lt}
+use Rattle.theory.proofs.Cases.{by-le, by-eq}
 use Rattle.theory.proofs.Count.{bit, bit-mono, bit-less, cnt, cnt-gain, cnt-false}
-use Rattle.theory.proofs.Lists.{_∈_, find, sumOf, sum-strict, Distinct, same-number}
+use Rattle.theory.proofs.Lists.{_∈_, find, sumOf, Distinct, same-number}
 use Rattle.theory.proofs.Order.{Urgency}
 use Rattle.theory.proofs.Plans as Plans
-use Rattle.theory.proofs.Plans.{Plan, works, did}
+use Rattle.rules.specs.Words.{isIt}
+use Rattle.theory.proofs.Plans.{Plan, did}
 use Rattle.theory.proofs.Hours.{Hours}
 use Rattle.theory.proofs.Rule.{Chooses, work, rest, Candidate, Obeys, chosen}
 
@@ -62,16 +64,16 @@ module _ {E : Type 0} (num own raised dur : E → ℕ) (opens : ℕ → Bool) (o
             H .least (raised a) (dur a) t (omega arith)
             (omega
             ( arith
-            , cnt-gain (λ s. works (w s) (num a)) opens (raised a) t (omega arith)
+            , cnt-gain (λ s. isIt (w s) (num a)) opens (raised a) t (omega arith)
               (λ k x y e. late k y a m (Plans.works-some (w k) (num a) e) .1)
             , none· (raised a) (omega arith) (omega arith)
             )))
       where
         none· : (u : ℕ) → u ≤ t → u ≤ raised a → did w (num a) u ≡ 0
         none· u h k =
-            cnt-false (λ s. works (w s) (num a)) u
+            cnt-false (λ s. isIt (w s) (num a)) u
             (λ s l.
-                by-test (works (w s) (num a))
+                by-test (isIt (w s) (num a))
                 (λ e. absurd (omega (arith, late s (omega arith) a m (Plans.works-some (w s) (num a) e) .0)))
                 (λ e. e))
 
@@ -98,7 +100,7 @@ module _ {E : Type 0} (num own raised dur : E → ℕ) (opens : ℕ → Bool) (o
         rank-less : (a f : E) → a ∈ L → sooner a f ≡ true → rank a < rank f
         unfolding rank
         rank-less a f m h =
-            sum-strict (λ g. bit (sooner g a)) (λ g. bit (sooner g f)) L
+            sum-lt (λ g. bit (sooner g a)) (λ g. bit (sooner g f)) L
             (λ g n. bit-mono (sooner g a) (sooner g f) (λ k. U .trans g a f k h))
             a m
             (bit-less (sooner a a) (sooner a f) (λ k. U .asym a a k k) h)

@@ -2,11 +2,11 @@
 use mathlib.Core.Path.{_≡_, refl, sym, ap, _∙_}
 use mathlib.Core.Logic.{_⊎_, inl, inr}
 use mathlib.Core.Bool.{Bool, true, false}
-use mathlib.Core.List.{List, [], _∷_, List·Memᴰ}
+use mathlib.Core.List.{List, [], _∷_, map, List·Memᴰ}
 use mathlib.Core.List.{List·Memᴰ·head as here, List·Memᴰ·tail as there}
-use Prim.Native.Nat.{ℕ, _+_, _≤_, _<_}
-use native.Mathlib.Omega.{arith}
-use Rattle.theory.proofs.Cases.{by-test}
+use Prim.Native.Nat.{ℕ, _+_}
+use Rattle.rules.specs.Words.{oneOf, sum}
+use Rattle.laws.proofs.Words.{by-test, oneOf-found, oneOf-none}
 
 infix 50 _∈_
 abbrev pub _∈_ : {A : Type 0} → A → List A → Type 0
@@ -20,40 +20,14 @@ module _ {A : Type 0} where
 
   -- an element that passes the test, or none does
   pub find : (p : A → Bool) (L : List A) → ((a : A) × (a ∈ L) × (p a ≡ true)) ⊎ ((a : A) → a ∈ L → p a ≡ false)
-  find p [] = inr (λ a m. elim m [ ])
-  find p (x ∷ L) = by-test (p x) (λ e. inl (x, here refl, e)) (λ e. go e (find p L))
-    where
-      go : p x ≡ false → ((a : A) × (a ∈ L) × (p a ≡ true)) ⊎ ((a : A) → a ∈ L → p a ≡ false)
-          → ((a : A) × (a ∈ x ∷ L) × (p a ≡ true)) ⊎ ((a : A) → a ∈ x ∷ L → p a ≡ false)
-      go e (inl f) = inl (f .0, there (f .1), f .2)
-      go e (inr f) = inr none·
-        where
-          none· : (a : A) → a ∈ x ∷ L → p a ≡ false
-          none· a (here q) = rw q e
-          none· a (there m) = f a m
+  find p L = by-test (oneOf p L) (λ e. inl (oneOf-found p L e)) (λ e. inr (oneOf-none p L e))
 
-  unfoldable pub sumOf : (A → ℕ) → List A → ℕ
-  sumOf f [] = 0
-  sumOf f (x ∷ L) = f x + sumOf f L
+  abbrev pub sumOf : (A → ℕ) → List A → ℕ
+  sumOf f L = sum (map f L)
 
   pub sum-cons : (f : A → ℕ) (x : A) (L : List A) → sumOf f (x ∷ L) ≡ f x + sumOf f L
-  unfolding sumOf
+  unfolding sum
   sum-cons f x L = refl
-
-  pub sum-mono : (f g : A → ℕ) (L : List A) → ((a : A) → a ∈ L → f a ≤ g a) → sumOf f L ≤ sumOf g L
-  unfolding sumOf
-  sum-mono f g [] le = omega arith
-  sum-mono f g (x ∷ L) le = omega (arith, le x (here refl), sum-mono f g L (λ a m. le a (there m)))
-
-  pub sum-strict : (f g : A → ℕ) (L : List A) → ((a : A) → a ∈ L → f a ≤ g a) → (b : A) → b ∈ L → f b < g b
-      → sumOf f L < sumOf g L
-  unfolding sumOf
-  sum-strict f g (x ∷ L) le b m lt =
-      by-mem m
-      (λ p.
-          let l : f x < g x = rw p at lt in
-          omega (arith, sum-mono f g L (λ a n. le a (there n))))
-      (λ n. omega (arith, le x (here refl), sum-strict f g L (λ a k. le a (there k)) b n lt))
 
   -- no two elements have the same number
   module _ (num : A → ℕ) where

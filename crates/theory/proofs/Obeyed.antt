@@ -8,12 +8,14 @@ use mathlib.Core.List.{List, [], _∷_}
 use mathlib.Core.List.{List·Memᴰ·head as here, List·Memᴰ·tail as there}
 use Prim.Native.Nat.{ℕ, zero, suc, _≤_, _<_, min}
 use native.Mathlib.Omega.{arith}
-use Rattle.theory.proofs.Cases.{by-test, by-le, clash}
+use Rattle.laws.proofs.Words.{by-test}
+use Rattle.theory.proofs.Cases.{by-le, clash}
 use Rattle.theory.proofs.Count.{cnt, cnt-zero, cnt-hit, cnt-miss}
 use Rattle.theory.proofs.Lists.{_∈_, by-mem, Distinct}
 use Rattle.theory.proofs.Order.{Urgency, Ordered, sorted, sorted-mem, mem-sorted, sorted-distinct, sorted-ordered}
 use Rattle.theory.proofs.Plans as Plans
-use Rattle.theory.proofs.Plans.{Plan, works, busy, did}
+use Rattle.rules.specs.Words.{isIt}
+use Rattle.theory.proofs.Plans.{Plan, busy, did}
 use Rattle.theory.proofs.Layers as Layers
 use Rattle.theory.proofs.Allowed.{Allowed}
 use Rattle.theory.proofs.Rule.{Chooses, work, rest, Candidate, Obeys, moved, chosen, obeys-is-layers}
@@ -21,7 +23,7 @@ use Rattle.theory.proofs.Rule.{Chooses, work, rest, Candidate, Obeys, m
 module _ {E : Type 0} (num ready dur : E → ℕ) (opens : ℕ → Bool) (sooner : E → E → Bool) where
   -- one more layer obeys the rule for one more entry
   module _ (x : E) (L : List E) (d : Distinct num (x ∷ L)) (o : Ordered sooner (x ∷ L)) (w : Plan)
-      (fresh : (s : ℕ) → works (w s) (num x) ≡ false) (t : ℕ) where
+      (fresh : (s : ℕ) → isIt (w s) (num x) ≡ false) (t : ℕ) where
     abbrev v : Plan
     v = Layers.layer num ready dur opens x w
 
@@ -86,7 +88,7 @@ module _ {E : Type 0} (num ready dur : E → ℕ) (opens : ℕ → Bool) (sooner
   layers-obey [] d o t = rest refl (λ f m c. elim m [ ])
   layers-obey (x ∷ L) d o t =
       let w : Plan = Layers.layers num ready dur opens L in
-      let fresh : (s : ℕ) → works (w s) (num x) ≡ false = Layers.layers-fresh num ready dur opens L (num x) (d .0) in
+      let fresh : (s : ℕ) → isIt (w s) (num x) ≡ false = Layers.layers-fresh num ready dur opens L (num x) (d .0) in
       by-test (Layers.takes num ready dur opens x w t)
       (λ h. layer-hits x L d o w fresh t h (layers-obey L (d .1) (o .1) t))
       (λ h. layer-misses x L d o w fresh t h (layers-obey L (d .1) (o .1) t))
@@ -119,16 +121,16 @@ module _ {E : Type 0} (num ready dur : E → ℕ) (opens : ℕ → Bool) (sooner
         chosen num sooner (Candidate num ready dur opens w t) L d (w t) (rule t) e m p
 
     obeys-most : (e : E) → e ∈ L → (t : ℕ) → did w (num e) t ≤ dur e
-    obeys-most e m zero = omega (arith, cnt-zero (λ s. works (w s) (num e)))
+    obeys-most e m zero = omega (arith, cnt-zero (λ s. isIt (w s) (num e)))
     obeys-most e m (suc t) =
-        by-test (works (w t) (num e))
+        by-test (isIt (w t) (num e))
         (λ h.
             omega
             ( arith
-            , cnt-hit (λ s. works (w s) (num e)) t h
+            , cnt-hit (λ s. isIt (w s) (num e)) t h
             , obeys-candidate t e m (Plans.works-some (w t) (num e) h) .left
             ))
-        (λ h. omega (arith, cnt-miss (λ s. works (w s) (num e)) t h, obeys-most e m t))
+        (λ h. omega (arith, cnt-miss (λ s. isIt (w s) (num e)) t h, obeys-most e m t))
 
     pub obeys-allowed : Allowed num ready dur opens L w
     obeys-allowed = record {

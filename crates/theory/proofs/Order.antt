@@ -6,7 +6,7 @@ use mathlib.Core.List.{List, [], _∷_}
 use mathlib.Core.List.{List·Memᴰ·head as here, List·Memᴰ·tail as there}
 use Prim.Native.Nat.{ℕ, _+_}
 use native.Mathlib.Omega.{arith}
-use Rattle.theory.proofs.Cases.{by-test}
+use Rattle.laws.proofs.Words.{by-test}
 use Rattle.theory.proofs.Lists.{_∈_, by-mem, Distinct, sumOf, sum-cons}
 
 pub record Urgency {E : Type 0} (num : E → ℕ) (sooner : E → E → Bool) : Type 0 where

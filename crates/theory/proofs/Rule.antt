@@ -1,4 +1,4 @@
--- The page's rule, slot by slot: the desk works on the soonest candidate, and rests only if there is none. A plan that
+-- The page's rule, slot by slot: the desk isIt on the soonest candidate, and rests only if there is none. A plan that
 -- obeys it for a list in order of urgency IS the plan by layers, in every slot. Assumes nothing.
 use mathlib.Core.Path.{_≡_, refl, sym, ap, _∙_, fun-ext}
 use mathlib.Core.Bool.{Bool, true, false, not, _&&_}
@@ -9,12 +9,14 @@ use Prim.Native.Nat.{ℕ, _≤_, _<_, min}
 use native.Mathlib.Omega.{arith}
 use lib.Dec.{leb, ltb}
 use borrow.Author.Tests.{le-leb, lt-ltb, ltb-true}
-use Rattle.theory.proofs.Cases.{by-test, clash, and-true, true-and, test-ext}
+use Rattle.laws.proofs.Words.{by-test, and-true, and-intro}
+use Rattle.theory.proofs.Cases.{clash, test-ext}
 use Rattle.theory.proofs.Count.{cnt, firstN, firstN-unique}
 use Rattle.theory.proofs.Lists.{_∈_, by-mem, Distinct, same-number}
 use Rattle.theory.proofs.Order.{Urgency, Ordered, sorted, sorted-mem, mem-sorted, sorted-distinct, sorted-ordered}
 use Rattle.theory.proofs.Plans as Plans
-use Rattle.theory.proofs.Plans.{Plan, works, busy, did, without}
+use Rattle.rules.specs.Words.{isIt}
+use Rattle.theory.proofs.Plans.{Plan, busy, did, without}
 use Rattle.theory.proofs.Layers as Layers
 
 -- what a desk does in a slot, when C says who is a candidate: the soonest of them, or nothing where there is none
@@ -84,17 +86,17 @@ module _ {E : Type 0} (num ready dur : E → ℕ) (opens : ℕ → Bool) where
       abbrev chance : ℕ → Bool
       chance = Layers.chance num ready dur opens x v
 
-      worked-chance : (t : ℕ) → works (w t) (num x) ≡ true → (chance t && ltb (did w (num x) t) (dur x)) ≡ true
+      worked-chance : (t : ℕ) → isIt (w t) (num x) ≡ true → (chance t && ltb (did w (num x) t) (dur x)) ≡ true
       worked-chance t h =
           let c : Candidate w t x =
               chosen num sooner (Candidate w t) (x ∷ L) d (w t) (rule t) x (here refl)
               (Plans.works-some (w t) (num x) h) in
-          true-and _ _
+          and-intro _ _
           (Layers.chance-when num ready dur opens x v t (c .hour) (c .ripe)
               (Plans.none-busy (v t) (Plans.without-hit (num x) w t h)))
           (lt-ltb (did w (num x) t) (dur x) (c .left))
 
-      chance-worked : (t : ℕ) → (chance t && ltb (did w (num x) t) (dur x)) ≡ true → works (w t) (num x) ≡ true
+      chance-worked : (t : ℕ) → (chance t && ltb (did w (num x) t) (dur x)) ≡ true → isIt (w t) (num x) ≡ true
       chance-worked t h = go (rule t)
         where
           c : chance t ≡ true
@@ -107,7 +109,7 @@ module _ {E : Type 0} (num ready dur : E → ℕ) (opens : ℕ → Bool) where
                 ltb-true (did w (num x) t) (dur x)
                 (and-true (chance t) (ltb (did w (num x) t) (dur x)) h .1)
           }
-          go : Chooses num sooner (Candidate w t) (x ∷ L) (w t) → works (w t) (num x) ≡ true
+          go : Chooses num sooner (Candidate w t) (x ∷ L) (w t) → isIt (w t) (num x) ≡ true
           go (work e m q k s) =
               by-mem m
               (λ p. Plans.some-works (w t) (num x) (q ∙ ap some (ap num p)))
@@ -131,9 +133,9 @@ module _ {E : Type 0} (num ready dur : E → ℕ) (opens : ℕ → Bool) where
               ∙ Plans.without-miss (num x) w t (same ∙ h)
               ))
         where
-          same : works (w t) (num x) ≡ Layers.takes num ready dur opens x v t
+          same : isIt (w t) (num x) ≡ Layers.takes num ready dur opens x v t
           same =
-              firstN-unique (dur x) chance (λ s. works (w s) (num x))
+              firstN-unique (dur x) chance (λ s. isIt (w s) (num x))
               (λ s. test-ext _ _ (worked-chance s) (chance-worked s)) t
 
   module _ (sooner : E → E → Bool) where

@@ -7,11 +7,13 @@ use mathlib.Core.List.{List, [], _∷_}
 use mathlib.Core.List.{List·Memᴰ·head as here, List·Memᴰ·tail as there}
 use Prim.Native.Nat.{ℕ, _+_, _≤_, _<_}
 use native.Mathlib.Omega.{arith}
-use Rattle.theory.proofs.Cases.{clash, and-true, true-and, by-or, or-left, or-right, test-ext}
+use Rattle.laws.proofs.Words.{and-true, and-intro, or-left, or-right}
+use Rattle.theory.proofs.Cases.{clash, by-or, test-ext}
 use Rattle.theory.proofs.Count.{cnt, cnt-or, cnt-false}
 use Rattle.theory.proofs.Lists.{_∈_, by-mem, Distinct, sumOf}
 use Rattle.theory.proofs.Plans as Plans
-use Rattle.theory.proofs.Plans.{Plan, works, busy, did}
+use Rattle.rules.specs.Words.{isIt, sum}
+use Rattle.theory.proofs.Plans.{Plan, busy, did}
 
 -- a number where the test passes
 unfoldable pub part : Bool → ℕ → ℕ
@@ -35,24 +37,24 @@ cnt-part false f t = cnt-false (λ s. false) t (λ k h. refl)
 module _ {E : Type 0} (num : E → ℕ) (X : E → Bool) where
   unfoldable pub on : List E → Option ℕ → Bool
   on [] o = false
-  on (x ∷ L) o = (X x && works o (num x)) || on L o
+  on (x ∷ L) o = (X x && isIt o (num x)) || on L o
 
-  pub on-when : (L : List E) (o : Option ℕ) (e : E) → e ∈ L → X e ≡ true → works o (num e) ≡ true → on L o ≡ true
+  pub on-when : (L : List E) (o : Option ℕ) (e : E) → e ∈ L → X e ≡ true → isIt o (num e) ≡ true → on L o ≡ true
   unfolding on
   on-when (x ∷ L) o e m h k =
       by-mem m
       (λ p.
-          or-left (X x && works o (num x)) (on L o)
-          (true-and (X x) (works o (num x)) (rw p at h) (rw p at k)))
-      (λ n. or-right (X x && works o (num x)) (on L o) (on-when L o e n h k))
+          or-left (X x && isIt o (num x)) (on L o)
+          (and-intro (X x) (isIt o (num x)) (rw p at h) (rw p at k)))
+      (λ n. or-right (X x && isIt o (num x)) (on L o) (on-when L o e n h k))
 
   pub on-some : (L : List E) (o : Option ℕ) → on L o ≡ true
-      → (e : E) × (e ∈ L) × (X e ≡ true) × (works o (num e) ≡ true)
+      → (e : E) × (e ∈ L) × (X e ≡ true) × (isIt o (num e) ≡ true)
   unfolding on
   on-some [] o h = clash h refl
   on-some (x ∷ L) o h =
-      by-or (X x && works o (num x)) (on L o) h
-      (λ k. let b = and-true (X x) (works o (num x)) k in (x, here refl, b .0, b .1))
+      by-or (X x && isIt o (num x)) (on L o) h
+      (λ k. let b = and-true (X x) (isIt o (num x)) k in (x, here refl, b .0, b .1))
       (λ k. let r = on-some L o k in (r .0, there (r .1), r .2, r .3))
 
   pub on-busy : (L : List E) (o : Option ℕ) → on L o ≡ true → busy o ≡ true
@@ -60,7 +62,7 @@ module _ {E : Type 0} (num : E → ℕ) (X : E → Bool) where
 
   -- who is in the list matters, and what is worked on of it
   pub on-ext : (L K : List E) (o p : Option ℕ) → ((e : E) → e ∈ L → X e ≡ true → e ∈ K) → ((e : E) → e ∈ K → e ∈ L)
-      → ((e : E) → e ∈ L → X e ≡ true → works o (num e) ≡ works p (num e)) → on L o ≡ on K p
+      → ((e : E) → e ∈ L → X e ≡ true → isIt o (num e) ≡ isIt p (num e)) → on L o ≡ on K p
   on-ext L K o p to from same =
       test-ext (on L o) (on K p)
       (λ h.
@@ -73,19 +75,19 @@ module _ {E : Type 0} (num : E → ℕ) (X : E → Bool) where
   -- the work on X is the sum over the entries of X
   pub work-sum : (L : List E) → Distinct num L → (w : Plan) (t : ℕ)
       → cnt (λ s. on L (w s)) t ≡ sumOf (λ e. part (X e) (did w (num e) t)) L
-  unfolding on sumOf
+  unfolding on sum
   work-sum [] d w t = cnt-false (λ s. false) t (λ k h. refl)
   work-sum (x ∷ L) d w t =
       omega
       ( arith
-      , cnt-or (λ s. X x && works (w s) (num x)) (λ s. on L (w s)) t
+      , cnt-or (λ s. X x && isIt (w s) (num x)) (λ s. on L (w s)) t
         (λ k h a b.
             let r = on-some L (w k) b in
             d .0 (r .0) (r .1)
             (Option·some-injective (num (r .0)) (num x)
                 ( sym (Plans.works-some (w k) (num (r .0)) (r .3))
-                ∙ Plans.works-some (w k) (num x) (and-true (X x) (works (w k) (num x)) a .1)
+                ∙ Plans.works-some (w k) (num x) (and-true (X x) (isIt (w k) (num x)) a .1)
                 )))
-      , cnt-part (X x) (λ s. works (w s) (num x)) t
+      , cnt-part (X x) (λ s. isIt (w s) (num x)) t
       , work-sum L (d .1) w t
       )
