@@ -5,20 +5,21 @@ use mathlib.Core.Path.{_≡_, refl, sym, ap, _∙_}
 use mathlib.Core.Logic.{_⊎_, inl, inr}
 use mathlib.Core.Bool.{Bool, true, false, _&&_}
 use mathlib.Core.Option.{Option, none, some}
-use mathlib.Core.List.{List, [], _∷_}
+use mathlib.Core.List.{List, [], _∷_, map}
+use mathlib.Core.List.{List·Memᴰ·head as here, List·Memᴰ·tail as there}
 use Prim.Native.Nat.{ℕ, zero, suc, _+_, _≤_, _<_}
 use native.Mathlib.Omega.{arith}
 use lib.Dec.{ltb}
 use lib.IntN.{ℤ, pos, _-ℤ_}
 use lib.Signed.{leZ}
 use borrow.Author.Tests.{ltb-true, ltb-false, le-leb}
-use Rattle.laws.proofs.Words.{by-test, and-true, sum-lt, sum-le}
+use Rattle.laws.proofs.Words.{and-true, mem-map, sum-le, sum-lt}
 use Rattle.theory.proofs.Cases.{by-le}
 use Rattle.theory.proofs.Count.{cnt, cnt-mono}
-use Rattle.theory.proofs.Lists.{_∈_, find, Distinct, sumOf}
+use Rattle.theory.proofs.Lists.{_∈_, by-mem, map-mem, find, Distinct, sumOf}
 use Rattle.theory.proofs.Order.{Urgency, UpClosed}
-use Rattle.laws.proofs.Signed.{up, dn, minus, leZ-le, le-leZ}
-use Rattle.rules.specs.Words.{isIt}
+use Rattle.laws.proofs.Signed.{up, dn, minus, leZ-le, le-leZ, greatestZ-start, greatestZ-mem, greatestZ-least}
+use Rattle.rules.specs.Words.{isIt, greatestZ, worstOf}
 use Rattle.theory.proofs.Plans.{Plan, did}
 use Rattle.theory.proofs.Allowed.{Allowed}
 use Rattle.theory.proofs.Rule.{Obeys}
@@ -38,6 +39,28 @@ late-mono : (b c : ℕ) (y z : ℤ) → b ≤ c → leZ z y ≡ true → leZ (po
 late-mono b c y z h k =
     le-leZ (pos b -ℤ y) (pos c -ℤ z)
     (omega (arith, leZ-le z y k, leZ-le (pos b) (pos c) (le-leb b c h), minus (pos b) y, minus (pos c) z))
+
+-- the worst of a list is at least each of it, and no more than a bound of each
+worst-mem : {E : Type 0} (g : E → ℤ) (L : List E) (e : E) → e ∈ L → leZ (g e) (worstOf (map g L)) ≡ true
+unfolding worstOf
+worst-mem g (x ∷ L) e m =
+    le-leZ (g e) (greatestZ (g x) (map g L))
+    (by-mem m
+        (λ p. rw p (greatestZ-start (g x) (map g L)))
+        (λ n. greatestZ-mem (g x) (map g L) (g e) (mem-map g L e n)))
+
+worst-most : {E : Type 0} (g h : E → ℤ) (L : List E)
+    → ((e : E) → e ∈ L → leZ (g e) (worstOf (map h L)) ≡ true) → leZ (worstOf (map g L)) (worstOf (map h L)) ≡ true
+unfolding worstOf
+worst-most g h [] under = refl
+worst-most g h (x ∷ L) under =
+    le-leZ (greatestZ (g x) (map g L)) b
+    (greatestZ-least (g x) b (map g L)
+        (leZ-le (g x) b (under x (here refl)))
+        (λ y m. let r = map-mem g L y m in rw (r .2) (leZ-le (g (r .0)) b (under (r .0) (there (r .1))))))
+  where
+    b : ℤ
+    b = greatestZ (h x) (map h L)
 
 module _ {E : Type 0} (num ready dur : E → ℕ) (opens : ℕ → Bool) (sooner : E → E → Bool) (U : Urgency num sooner)
     (L : List E) (d : Distinct num L) (w : Plan) (rule : Obeys num ready dur opens sooner L w)
@@ -116,3 +139,11 @@ module _ {E : Type 0} (num ready dur : E → ℕ) (opens : ℕ → Bool) (sooner
         let r = later-one e m in
         leZ-trans (pos (finish e) -ℤ latest e) (pos (other (r .0)) -ℤ latest (r .0)) bound
         (r .2) (under (r .0) (r .1))
+
+    -- the worst lateness of the rule's plan is the least
+    pub worst-least : leZ (worstOf (map (λ e. pos (finish e) -ℤ latest e) L))
+        (worstOf (map (λ e. pos (other e) -ℤ latest e) L)) ≡ true
+    worst-least =
+        worst-most (λ e. pos (finish e) -ℤ latest e) (λ e. pos (other e) -ℤ latest e) L
+        (no-smaller (worstOf (map (λ e. pos (other e) -ℤ latest e) L))
+            (worst-mem (λ e. pos (other e) -ℤ latest e) L))

@@ -40,3 +40,10 @@ module _ {A : Type 0} where
     same-number (x ∷ L) d a b (here p) (there n) e = absurd (d .0 b n (sym e ∙ ap num p))
     same-number (x ∷ L) d a b (there m) (here q) e = absurd (d .0 a m (e ∙ ap num q))
     same-number (x ∷ L) d a b (there m) (there n) e = same-number L (d .1) a b m n e
+
+-- an element of a mapped list comes from one of the list
+pub map-mem : {A B : Type 0} (f : A → B) (L : List A) (y : B) → y ∈ map f L → (a : A) × (a ∈ L) × (y ≡ f a)
+map-mem f (x ∷ L) y m =
+    by-mem m
+    (λ p. (x, here refl, p))
+    (λ n. let r = map-mem f L y n in (r .0, there (r .1), r .2))
