@@ -73,6 +73,16 @@ module _ {E : Type 0} (num ready dur : E → ℕ) (opens : ℕ → Bool) where
     unfolding chance
     chance-when h k b = rw (h, le-leb (ready x) t k, b)
 
+    pub takes-early : t < ready x → takes x w t ≡ false
+    takes-early h =
+        by-test (takes x w t) (λ e. absurd (omega (arith, chance-ready (takes-chance e)))) (λ e. e)
+
+    pub takes-over : dur x ≤ cnt (chance x w) t → takes x w t ≡ false
+    takes-over h = by-test (takes x w t) (λ e. absurd (omega (arith, takes-left e))) (λ e. e)
+
+    pub takes-behind : busy (w t) ≡ true → takes x w t ≡ false
+    takes-behind h = by-test (takes x w t) (λ e. clash h (chance-free (takes-chance e))) (λ e. e)
+
     pub layer-busy : busy (layer x w t) ≡ (busy (w t) || takes x w t)
     layer-busy =
         by-test (takes x w t)

@@ -14,3 +14,6 @@ pub mod Links
 pub mod Work
 pub mod Dominance
 pub mod Lateness
+pub mod Turns
+pub mod Score
+pub mod RunCount

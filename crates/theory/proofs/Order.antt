@@ -4,8 +4,9 @@ use mathlib.Core.Path.{_≡_, refl, sym, ap, _∙_}
 use mathlib.Core.Bool.{Bool, true, false}
 use mathlib.Core.List.{List, [], _∷_}
 use mathlib.Core.List.{List·Memᴰ·head as here, List·Memᴰ·tail as there}
-use Prim.Native.Nat.{ℕ, _+_}
+use Prim.Native.Nat.{ℕ, suc, _+_}
 use native.Mathlib.Omega.{arith}
+use lib.ListN.{length}
 use Rattle.laws.proofs.Words.{by-test}
 use Rattle.theory.proofs.Lists.{_∈_, by-mem, Distinct, sumOf, sum-cons}
 
@@ -91,6 +92,19 @@ module _ {E : Type 0} (sooner : E → E → Bool) where
   unfolding sorted
   sorted-sum f [] = refl
   sorted-sum f (x ∷ L) = omega (arith, insert-sum f x (sorted L), sum-cons f x L, sorted-sum f L)
+
+  insert-length : (x : E) (L : List E) → length (insert x L) ≡ suc (length L)
+  unfolding insert
+  insert-length x [] = refl
+  insert-length x (y ∷ L) =
+      by-test (sooner y x)
+      (λ h. rw (insert-front x y L h))
+      (λ h. rw (insert-behind x y L h) (ap suc (insert-length x L)))
+
+  pub sorted-length : (L : List E) → length (sorted L) ≡ length L
+  unfolding sorted
+  sorted-length [] = refl
+  sorted-length (x ∷ L) = insert-length x (sorted L) ∙ ap suc (sorted-length L)
 
   module _ (num : E → ℕ) where
     insert-distinct : (x : E) (L : List E) → ((e : E) → e ∈ L → num e ≡ num x → ⊥) → Distinct num L

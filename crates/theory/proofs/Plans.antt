@@ -21,6 +21,11 @@ busy (some j) = true
 abbrev pub did : Plan → ℕ → ℕ → ℕ
 did w i t = cnt (λ s. isIt (w s) i) t
 
+-- somebody is worked on, or nobody
+pub by-who : {P : Type 0} (o : Option ℕ) → (o ≡ none → P) → ((i : ℕ) → o ≡ some i → P) → P
+by-who none rests worked = rests refl
+by-who (some i) rests worked = worked i refl
+
 pub works-some : (o : Option ℕ) (i : ℕ) → isIt o i ≡ true → o ≡ some i
 unfolding isIt
 works-some none i h = clash h refl
