@@ -17,3 +17,4 @@ pub mod Lateness
 pub mod Turns
 pub mod Score
 pub mod RunCount
+pub mod RunSlots

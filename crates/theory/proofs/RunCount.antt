@@ -8,7 +8,7 @@ use mathlib.Core.Bool.{Bool, true, false}
 use mathlib.Core.Option.{Option, none, some}
 use mathlib.Core.List.{List, [], _∷_, map}
 use mathlib.Core.List.{List·Memᴰ·head as here, List·Memᴰ·tail as there}
-use Prim.Native.Nat.{ℕ, zero, suc, _+_, _*_, _≤_, _<_}
+use Prim.Native.Nat.{ℕ, zero, suc, _+_, _-_, _*_, _≤_, _<_}
 use native.Mathlib.Omega.{arith}
 use lib.ListN.{length}
 use Rattle.rules.specs.Words.{keep, below}
@@ -173,7 +173,7 @@ module _ {E : Type 0} (num ready dur : E → ℕ) (opens : ℕ → Bool) where
   -- AT MOST 2 m - 1 RUNS
   pub runs-most : (sooner : E → E → Bool) → Urgency num sooner → (L : List E) → Distinct num L → 1 ≤ length L
       → (w : Plan) → Obeys num ready dur opens sooner L w → (h : ℕ)
-      → length (runsFrom none (turnsOf opens w h)) + 1 ≤ 2 * length L
+      → length (runsFrom none (turnsOf opens w h)) ≤ 2 * length L - 1
   runs-most sooner U L d some-entry w rule h =
       let v : Plan = Layers.layers num ready dur opens (sorted sooner L) in
       let ts : List ℕ = keep opens (below h) in
