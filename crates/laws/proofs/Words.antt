@@ -207,6 +207,9 @@ module _ {A : Type 0} (f g : A → ℕ) where
       let ih : sum (map f ys) + c ≤ sum (map g ys) = sum-gap c ys (on-tail y ys h) x m k in
       omega (arith, h y (here refl))
 
+  pub sum-lt : (l : List A) → ((x : A) → Mem x l → f x ≤ g x) → (x : A) → Mem x l → f x < g x → sum (map f l) < sum (map g l)
+  sum-lt l h x m k = let w : sum (map f l) + 1 ≤ sum (map g l) = sum-gap 1 l h x m (omega arith) in omega arith
+
 pub sum-same : {A : Type 0} (c : ℕ) (l : List A) → sum (map (λ x. c) l) ≡ c * length l
 unfolding sum
 sum-same c [] = sym (mul-zero c)
