@@ -1,0 +1,5 @@
+-- The theorems, by demand.
+pub mod Accepting
+pub mod Rings
+pub mod Finishes
+pub mod EachSlot
