@@ -3,3 +3,4 @@ pub mod Accepting
 pub mod Rings
 pub mod Finishes
 pub mod EachSlot
+pub mod Starts

@@ -35,14 +35,14 @@ module _ (J : Job) (sound : Sound J) where
       record {
         on-ring = via-leads (linked J) (pieceCount J) i i (w .1);
         lowest = λ j l k. true-or-false
-          (sym (leads-via (linked J) (pieceCount J) (links-inside J sound) k) ∙ w .2 j l);
+            (sym (leads-via (linked J) (pieceCount J) (links-inside J sound) k) ∙ w .2 j l);
       }
 
   none-found : ringPiece J ≡ none → (i : ℕ) → Leads (linked J) i i → ⊥
   unfolding ringPiece
   none-found h i k =
       true-or-false (sym (leads-via (linked J) (pieceCount J) (links-inside J sound) k)
-        ∙ ring-free (linked J) (pieceCount J) h i (leads-inside (linked J) (pieceCount J) (links-inside J sound) k .0))
+      ∙ ring-free (linked J) (pieceCount J) h i (leads-inside (linked J) (pieceCount J) (links-inside J sound) k .0))
 
   found-lowest : (i : ℕ) → LowestOnRing J i → ringPiece J ≡ some i
   found-lowest i r = go (ringPiece J) refl
@@ -53,7 +53,7 @@ module _ (J : Job) (sound : Sound J) where
           let w : LowestOnRing J k = lowest-found k e in
           by-test (ltb k i) (λ a. absurd (r .lowest k (ltb-true k i a) (w .on-ring)))
           (λ a. by-test (ltb i k) (λ b. absurd (w .lowest i (ltb-true i k b) (r .on-ring)))
-            (λ b. let q : k ≡ i = omega (arith, ltb-false k i a, ltb-false i k b) in e ∙ ap some q))
+          (λ b. let q : k ≡ i = omega (arith, ltb-false k i a, ltb-false i k b) in e ∙ ap some q))
 
 -- A file without a fault in its records or its length.
 module _ (file : List ℕ) (J : Job) (read : readJob file ≡ accepted J) where
@@ -68,12 +68,15 @@ module _ (file : List ℕ) (J : Job) (read : readJob file ≡ accepted J) where
     where
       sound : Sound J
       sound = job-sound file J read
+
       number : Outcome → ℕ
       number (refused r) = r .number
       number (accepted K) = 0
+
       place : Outcome → ℕ
       place (refused r) = r .place
       place (accepted K) = 0
+
       there-is : fileOutcome file ≡ refuse 11 i → LowestOnRing J i
       there-is h = go (ringPiece J) refl
         where
@@ -83,6 +86,7 @@ module _ (file : List ℕ) (J : Job) (read : readJob file ≡ accepted J) where
           go (some k) e =
               let q : k ≡ i = ap place (rw (e, unlessRing) at (sym judged-for-ring ∙ h)) in
               lowest-found J sound i (e ∙ ap some q)
+
       refused-it : LowestOnRing J i → fileOutcome file ≡ refuse 11 i
       refused-it r = judged-for-ring ∙ rw (found-lowest J sound i r, unlessRing)
 
@@ -93,9 +97,11 @@ module _ (file : List ℕ) (J : Job) (read : readJob file ≡ accepted J) where
     where
       sound : Sound J
       sound = job-sound file J read
+
       code : Outcome → ℕ
       code (refused r) = 1
       code (accepted K) = 0
+
       free : AcceptedAs file J → (i : ℕ) → Leads (linked J) i i → ⊥
       free h = go (ringPiece J) refl
         where
@@ -103,6 +109,7 @@ module _ (file : List ℕ) (J : Job) (read : readJob file ≡ accepted J) where
           go none e = none-found J sound e
           go (some k) e =
               let z : _≡_ {A = ℕ} 1 0 = ap code (rw (e, unlessRing) at (sym judged-for-ring ∙ h)) in absurd (omega arith)
+
       accept : ((i : ℕ) → Leads (linked J) i i → ⊥) → AcceptedAs file J
       accept n = go (ringPiece J) refl
         where

@@ -21,7 +21,7 @@ pub hours-always : (opens : ℕ → Bool) → ((s : ℕ) → opens s ≡ true) �
 hours-always opens always = record {
   from = λ t k. omega arith;
   count = λ t k. omega (arith, cnt-always opens always (t + k), cnt-always opens always t);
-  least = λ t k u h e. omega (arith, cnt-always opens always t, cnt-always opens always u)
+  least = λ t k u h e. omega (arith, cnt-always opens always t, cnt-always opens always u);
 }
 
 module _ (opens : ℕ → Bool) (openEnd : ℕ → ℕ → ℕ) (H : Hours opens openEnd) where

@@ -61,21 +61,21 @@ module _ {E : Type 0} (num own raised dur : E → ℕ) (opens : ℕ → Bool) (o
         by-le t (raised a)
         (λ h. absurd (omega (arith, none· t (omega arith) h, some-work a m)))
         (λ h.
-            H .least (raised a) (dur a) t (omega arith)
-            (omega
-            ( arith
-            , cnt-gain (λ s. isIt (w s) (num a)) opens (raised a) t (omega arith)
-              (λ k x y e. late k y a m (Plans.works-some (w k) (num a) e) .1)
-            , none· (raised a) (omega arith) (omega arith)
-            )))
+        H .least (raised a) (dur a) t (omega arith)
+        (omega (
+          arith,
+          cnt-gain (λ s. isIt (w s) (num a)) opens (raised a) t (omega arith)
+              (λ k x y e. late k y a m (Plans.works-some (w k) (num a) e) .1),
+          none· (raised a) (omega arith) (omega arith),
+        )))
       where
         none· : (u : ℕ) → u ≤ t → u ≤ raised a → did w (num a) u ≡ 0
         none· u h k =
             cnt-false (λ s. isIt (w s) (num a)) u
             (λ s l.
-                by-test (isIt (w s) (num a))
-                (λ e. absurd (omega (arith, late s (omega arith) a m (Plans.works-some (w s) (num a) e) .0)))
-                (λ e. e))
+            by-test (isIt (w s) (num a))
+            (λ e. absurd (omega (arith, late s (omega arith) a m (Plans.works-some (w s) (num a) e) .0)))
+            (λ e. e))
 
     linked-raised : (t : ℕ) → Late t → (e : E) → e ∈ L → Lin t e → raised e ≤ t
     linked-raised t late e m c = R .least e m t (c .ripe) (λ a n b. ended t late a n (c .ahead a n b))
@@ -86,10 +86,10 @@ module _ {E : Type 0} (num own raised dur : E → ℕ) (opens : ℕ → Bool) (o
       linked-late (suc t) s h a m p =
           by-le t s
           (λ k.
-              let z : s ≡ t = omega arith in
-              let c : Lin t a =
-                  chosen num sooner (Lin t) L d (w t) (rule t) a m (rw z at p) in
-              rw z (linked-raised t (linked-late t) a m c, c .hour))
+          let z : s ≡ t = omega arith in
+          let c : Lin t a =
+          chosen num sooner (Lin t) L d (w t) (rule t) a m (rw z at p) in
+          rw z (linked-raised t (linked-late t) a m c, c .hour))
           (λ k. linked-late t s k a m p)
 
       module _ (U : Urgency num sooner)
@@ -110,12 +110,12 @@ module _ {E : Type 0} (num own raised dur : E → ℕ) (opens : ℕ → Bool) (o
         Lead t f = (g : E) × (g ∈ L) × Lin t g × ((g ≡ f) ⊎ (sooner g f ≡ true))
 
         lead-on : (t : ℕ) (a f : E) → sooner a f ≡ true → Lead t a → Lead t f
-        lead-on t a f h l =
-            ( l .0
-            , l .1
-            , l .2
-            , inr (⊎-elim (λ p. rw p h) (λ p. U .trans (l .0) a f p h) (l .3))
-            )
+        lead-on t a f h l = (
+          l .0,
+          l .1,
+          l .2,
+          inr (⊎-elim (λ p. rw p h) (λ p. U .trans (l .0) a f p h) (l .3)),
+        )
 
         leader : (t n : ℕ) (f : E) → f ∈ L → rank f < n → Can t f → Lead t f
         leader t zero f m h c = absurd (omega arith)
@@ -123,6 +123,7 @@ module _ {E : Type 0} (num own raised dur : E → ℕ) (opens : ℕ → Bool) (o
           where
             open· : E → Bool
             open· a = before a f && ltb (did w (num a) t) (dur a)
+
             step : ((a : E) → a ∈ L → rank a < n → Can t a → Lead t a)
                 → ((a : E) × (a ∈ L) × (open· a ≡ true)) ⊎ ((a : E) → a ∈ L → open· a ≡ false) → Lead t f
             step deeper (inl (a, k, e)) =
@@ -135,19 +136,19 @@ module _ {E : Type 0} (num own raised dur : E → ℕ) (opens : ℕ → Bool) (o
                   ripe = omega (arith, H .from (raised a) (dur a), R .later a f k m b, c .ripe);
                   left =
                       ltb-true (did w (num a) t) (dur a)
-                      (and-true (before a f) (ltb (did w (num a) t) (dur a)) e .1)
+                      (and-true (before a f) (ltb (did w (num a) t) (dur a)) e .1);
                 }))
-            step deeper (inr none·) =
-                ( f
-                , m
-                , record {
-                    hour = c .hour;
-                    ripe = omega (arith, R .above f m, c .ripe);
-                    left = c .left;
-                    ahead = λ a k b. ltb-false (did w (num a) t) (dur a) (rw b at (none· a k))
-                  }
-                , inl refl
-                )
+            step deeper (inr none·) = (
+              f,
+              m,
+              record {
+                hour = c .hour;
+                ripe = omega (arith, R .above f m, c .ripe);
+                left = c .left;
+                ahead = λ a k b. ltb-false (did w (num a) t) (dur a) (rw b at (none· a k));
+              },
+              inl refl,
+            )
 
         -- LINKS DISAPPEAR
         pub links-disappear : Obeys num raised dur opens sooner L w
@@ -155,17 +156,18 @@ module _ {E : Type 0} (num own raised dur : E → ℕ) (opens : ℕ → Bool) (o
           where
             led : (f : E) → f ∈ L → Can t f → Lead t f
             led f m c = leader t (suc (rank f)) f m (omega arith) c
+
             go : Chooses num sooner (Lin t) L (w t) → Chooses num sooner (Can t) L (w t)
             go (work e m q c s) =
                 work e m q
                 (record { hour = c .hour; ripe = linked-raised t (linked-late t) e m c; left = c .left })
                 (λ f n k apart.
-                    let l = led f n k in
-                    by-eq (num (l .0)) (num e)
-                    (λ z.
-                        let same : l .0 ≡ e = same-number num L d (l .0) e (l .1) m z in
-                        ⊎-elim (λ p. absurd (apart (ap num (sym p ∙ same)))) (λ p. rw same at p) (l .3))
-                    (λ z.
-                        let ahead : sooner e (l .0) ≡ true = s (l .0) (l .1) (l .2) z in
-                        ⊎-elim (λ p. rw p at ahead) (λ p. U .trans e (l .0) f ahead p) (l .3)))
+                let l = led f n k in
+                by-eq (num (l .0)) (num e)
+                (λ z.
+                let same : l .0 ≡ e = same-number num L d (l .0) e (l .1) m z in
+                ⊎-elim (λ p. absurd (apart (ap num (sym p ∙ same)))) (λ p. rw same at p) (l .3))
+                (λ z.
+                let ahead : sooner e (l .0) ≡ true = s (l .0) (l .1) (l .2) z in
+                ⊎-elim (λ p. rw p at ahead) (λ p. U .trans e (l .0) f ahead p) (l .3)))
             go (rest q n) = rest q (λ f m c. let l = led f m c in n (l .0) (l .1) (l .2))

@@ -46,12 +46,13 @@ module _ {E : Type 0} (num ready dur : E → ℕ) (opens : ℕ → Bool) (sooner
         (record {
           hour = Layers.chance-open num ready dur opens x w t chance;
           ripe = Layers.chance-ready num ready dur opens x w t chance;
-          left = omega (arith, own, Layers.takes-left num ready dur opens x w t h)
+          left = omega (arith, own, Layers.takes-left num ready dur opens x w t h);
         })
         (λ f m k apart. by-mem m (λ p. absurd (apart (ap num p))) (λ n. absurd (nobody c f n (old f n k))))
       where
         chance : Layers.chance num ready dur opens x w t ≡ true
         chance = Layers.takes-chance num ready dur opens x w t h
+
         nobody : Chooses num sooner (Can w) L (w t) → (f : E) → f ∈ L → Can w f → ⊥
         nobody (work e m q k s) f n j =
             clash (Plans.some-busy (w t) (num e) q) (Layers.chance-free num ready dur opens x w t chance)
@@ -63,22 +64,22 @@ module _ {E : Type 0} (num ready dur : E → ℕ) (opens : ℕ → Bool) (sooner
         work e (there m) (Layers.layer-miss num ready dur opens x w t h ∙ q)
         (moved num ready dur opens v w t e (same e m) c)
         (λ f n k apart.
-            by-mem n
-            (λ p. rw p (o .0 e m))
-            (λ n′. s f n′ (old f n′ k) apart))
+        by-mem n
+        (λ p. rw p (o .0 e m))
+        (λ n′. s f n′ (old f n′ k) apart))
     layer-misses h (rest q n) =
         rest (Layers.layer-miss num ready dur opens x w t h ∙ q)
         (λ f m c.
-            by-mem m
-            (λ p. done (rw p at c))
-            (λ n′. n f n′ (old f n′ c)))
+        by-mem m
+        (λ p. done (rw p at c))
+        (λ n′. n f n′ (old f n′ c)))
       where
         done : Can v x → ⊥
         done c =
             clash
             (Layers.takes-when num ready dur opens x w t
-                (Layers.chance-when num ready dur opens x w t (c .hour) (c .ripe) (Plans.none-busy (w t) q))
-                (omega (arith, own, c .left)))
+            (Layers.chance-when num ready dur opens x w t (c .hour) (c .ripe) (Plans.none-busy (w t) q))
+            (omega (arith, own, c .left)))
             h
 
   -- THE LAYERS OBEY THE RULE
@@ -125,11 +126,11 @@ module _ {E : Type 0} (num ready dur : E → ℕ) (opens : ℕ → Bool) (sooner
     obeys-most e m (suc t) =
         by-test (isIt (w t) (num e))
         (λ h.
-            omega
-            ( arith
-            , cnt-hit (λ s. isIt (w s) (num e)) t h
-            , obeys-candidate t e m (Plans.works-some (w t) (num e) h) .left
-            ))
+        omega (
+          arith,
+          cnt-hit (λ s. isIt (w s) (num e)) t h,
+          obeys-candidate t e m (Plans.works-some (w t) (num e) h) .left,
+        ))
         (λ h. omega (arith, cnt-miss (λ s. isIt (w s) (num e)) t h, obeys-most e m t))
 
     pub obeys-allowed : Allowed num ready dur opens L w
@@ -139,7 +140,7 @@ module _ {E : Type 0} (num ready dur : E → ℕ) (opens : ℕ → Bool) (sooner
           let r = known t i p (rule t) in
           obeys-candidate t (r .0) (r .1) (p ∙ ap some (sym (r .2))) .hour;
       after = λ e m t p. obeys-candidate t e m p .ripe;
-      most = obeys-most
+      most = obeys-most;
     }
       where
         known : (t i : ℕ) → w t ≡ some i → Chooses num sooner (Candidate num ready dur opens w t) L (w t)

@@ -62,8 +62,8 @@ module _ {E : Type 0} (sooner : E → E → Bool) where
       by-test (sooner y x)
       (λ h. let n : e ∈ x ∷ y ∷ L = rw (insert-front x y L h) at m in by-mem n new old)
       (λ h.
-          let n : e ∈ y ∷ insert x L = rw (insert-behind x y L h) at m in
-          by-mem n (λ p. old (here p)) (λ k. insert-from x L e k new (λ o. old (there o))))
+      let n : e ∈ y ∷ insert x L = rw (insert-behind x y L h) at m in
+      by-mem n (λ p. old (here p)) (λ k. insert-from x L e k new (λ o. old (there o))))
 
   pub sorted-mem : (L : List E) (e : E) → e ∈ L → e ∈ sorted L
   unfolding sorted
@@ -85,8 +85,8 @@ module _ {E : Type 0} (sooner : E → E → Bool) where
       by-test (sooner y x)
       (λ h. rw (insert-front x y L h) (sum-cons f x (y ∷ L)))
       (λ h.
-          rw (insert-behind x y L h)
-          (omega (arith, sum-cons f y (insert x L), sum-cons f y L, insert-sum f x L)))
+      rw (insert-behind x y L h)
+      (omega (arith, sum-cons f y (insert x L), sum-cons f y L, insert-sum f x L)))
 
   pub sorted-sum : (f : E → ℕ) (L : List E) → sumOf f (sorted L) ≡ sumOf f L
   unfolding sorted
@@ -115,13 +115,13 @@ module _ {E : Type 0} (sooner : E → E → Bool) where
         by-test (sooner y x)
         (λ h. rw (insert-front x y L h) (apart, d))
         (λ h.
-            rw (insert-behind x y L h)
-            ( λ a m e.
-                insert-from x L a m
-                (λ p. apart y (here refl) (sym e ∙ ap num p))
-                (λ n. d .0 a n e)
-            , insert-distinct x L (λ a m. apart a (there m)) (d .1)
-            ))
+        rw (insert-behind x y L h) (
+          λ a m e.
+              insert-from x L a m
+              (λ p. apart y (here refl) (sym e ∙ ap num p))
+              (λ n. d .0 a n e),
+          insert-distinct x L (λ a m. apart a (there m)) (d .1),
+        ))
 
     pub sorted-distinct : (L : List E) → Distinct num L → Distinct num (sorted L)
     unfolding sorted
@@ -137,14 +137,14 @@ module _ {E : Type 0} (sooner : E → E → Bool) where
       insert-ordered x (y ∷ L) apart o =
           by-test (sooner y x)
           (λ h.
-              rw (insert-front x y L h)
-              (λ f m. by-mem m (λ p. rw p h) (λ n. U .trans f y x (o .0 f n) h), o))
+          rw (insert-front x y L h)
+          (λ f m. by-mem m (λ p. rw p h) (λ n. U .trans f y x (o .0 f n) h), o))
           (λ h.
-              let later : sooner x y ≡ true = U .total y x (apart y (here refl)) h in
-              rw (insert-behind x y L h)
-              ( λ f m. insert-from x L f m (λ p. rw p later) (λ n. o .0 f n)
-              , insert-ordered x L (λ a m. apart a (there m)) (o .1)
-              ))
+          let later : sooner x y ≡ true = U .total y x (apart y (here refl)) h in
+          rw (insert-behind x y L h) (
+            λ f m. insert-from x L f m (λ p. rw p later) (λ n. o .0 f n),
+            insert-ordered x L (λ a m. apart a (there m)) (o .1),
+          ))
 
       pub sorted-ordered : (L : List E) → Distinct num L → Ordered (sorted L)
       unfolding sorted

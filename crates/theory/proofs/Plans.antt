@@ -92,8 +92,8 @@ module _ (i : ℕ) (w : Plan) (t : ℕ) where
   without-other j apart =
       by-test (isIt (w t) i)
       (λ h.
-          none-works (without i w t) j (without-hit h)
-          ∙ sym (other-works (w t) i j (works-some (w t) i h) (λ e. apart (sym e))))
+      none-works (without i w t) j (without-hit h)
+      ∙ sym (other-works (w t) i j (works-some (w t) i h) (λ e. apart (sym e))))
       (λ h. rw (without-miss h))
 
 pub did-without : (i : ℕ) (w : Plan) (j : ℕ) → (j ≡ i → ⊥) → (t : ℕ) → did (without i w) j t ≡ did w j t
@@ -109,6 +109,7 @@ busy-without i w t =
   where
     gone : (k : ℕ) → isIt (w k) i ≡ true → busy (without i w k) ≡ false
     gone k h = none-busy (without i w k) (without-hit i w k h)
+
     point : (k : ℕ) → busy (w k) ≡ (busy (without i w k) || isIt (w k) i)
     point k =
         by-test (isIt (w k) i)

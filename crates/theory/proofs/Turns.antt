@@ -85,6 +85,7 @@ by-turn P x rests longer new u = who (x .who) refl
         by-test (eqb (r .piece) i)
         (λ k. longer r (e ∙ ap some (sym (eqb-true (r .piece) i k))))
         (λ k. new (some r) i e k)
+
     who : (o : Option ℕ) → x .who ≡ o → P u
     who none e = rests u e
     who (some i) e = under u i e
