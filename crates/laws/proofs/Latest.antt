@@ -18,6 +18,7 @@ use Rattle.laws.proofs.Words.{map-same, mem-map}
 use Rattle.laws.proofs.Signed.{up, dn, _≼_, _≺_, minus, least-start, least-mem, least-within, below-zero, below-zero-is}
 use Rattle.laws.proofs.Sound.{fits, link-fit, from-link, link-from, behind, behind-falls, behind-few, along-after}
 use Rattle.laws.proofs.Order.{smaller-sooner}
+use Rattle.laws.proofs.Settling.{settles}
 
 -- What the pieces after i leave it, given their latest moments: the right side of the page's equation.
 unfoldable pub asked : Job → (ℕ → ℤ) → ℕ → ℤ
@@ -64,28 +65,25 @@ unfolding takesOff
 takes-off-most J sound l m = fits J sound (l .after) (link-fit J sound l m .after-one) .duration-most
 
 module _ (J : Job) (sound : Sound J) (free : ringPiece J ≡ none) where
-  -- Chains longer than the number of pieces that i leads to add nothing.
-  settled : (n i : ℕ) → behind J sound free i ≤ n → latestWithin J (suc n) i ≡ latestWithin J n i
+  -- A link from i goes to a piece that leads to fewer.
+  falls : (i : ℕ) (l : Link) → Mem l (linksFrom J i) → behind J sound free (l .after) < behind J sound free i
+  falls i l m =
+      let w = from-link J i l m in
+      rw (ap (behind J sound free) (w .1)) at (behind-falls J sound free l (w .0))
+
+  no-links : (i : ℕ) → behind J sound free i ≡ 0 → latestWithin J 1 i ≡ latestWithin J 0 i
   unfolding latestWithin leastZ
-  settled zero i h = go (linksFrom J i) refl
+  no-links i z = go (linksFrom J i) refl
     where
       go : (ls : List Link) → linksFrom J i ≡ ls → latestWithin J 1 i ≡ latestWithin J 0 i
       go [] e = rw e
-      go (l ∷ ls) e =
-          let w = from-link J i l (rw e (here refl)) in
-          let f : behind J sound free (l .after) < behind J sound free (l .before) = behind-falls J sound free l (w .0) in
-          let q : behind J sound free (l .before) ≡ behind J sound free i = ap (behind J sound free) (w .1) in
-          absurd (omega arith)
-  settled (suc n) i h =
-      within-more J (suc n) i ∙ asked-same J (latestWithin J (suc n)) (latestWithin J n) i (λ l m. settled n (l .after) (less l m))
-      ∙ sym (within-more J n i)
-    where
-      less : (l : Link) → Mem l (linksFrom J i) → behind J sound free (l .after) ≤ n
-      less l m =
-          let w = from-link J i l m in
-          let f : behind J sound free (l .after) < behind J sound free (l .before) = behind-falls J sound free l (w .0) in
-          let q : behind J sound free (l .before) ≡ behind J sound free i = ap (behind J sound free) (w .1) in
-          omega arith
+      go (l ∷ ls) e = absurd (omega (arith, falls i l (rw e (here refl))))
+
+  -- Chains longer than the number of pieces that i leads to add nothing.
+  settled : (n i : ℕ) → behind J sound free i ≤ n → latestWithin J (suc n) i ≡ latestWithin J n i
+  settled =
+      settles (behind J sound free) (latestWithin J) (asked J) (within-more J)
+      (λ f g i h. asked-same J f g i (λ l m. h (l .after) (falls i l m))) no-links
 
   -- The page's equation holds.
   pub latest-equation : (i : ℕ) → i < pieceCount J → latest J i ≡ asked J (latest J) i

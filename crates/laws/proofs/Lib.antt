@@ -8,7 +8,9 @@ pub mod Delay
 pub mod Hours
 pub mod Reading
 pub mod Prefix
+pub mod Settling
 pub mod Latest
+pub mod Raised
 pub mod Slots
 pub mod Progress
 pub mod Finishing

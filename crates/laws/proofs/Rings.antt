@@ -138,6 +138,10 @@ module _ (follows : ℕ → ℕ → Bool) where
           (λ p m h. via-on n i j p (inside i j e .1) (via-more n i j e) h)
           j (below-mem n j (inside i j e .1)) (free j (inside i j e .1)) (via-more n i j e)
 
+      pub ahead-few : (i : ℕ) → ahead i ≤ n
+      unfolding ahead
+      ahead-few i = omega (arith, keep-length (λ p. via follows n p i) (below n), length-below n)
+
       -- A piece does not lead to itself, so it leads to fewer than n.
       pub behind-few : (i : ℕ) → i < n → behind i < n
       unfolding behind

@@ -134,6 +134,15 @@ module _ (J : Job) (sound : Sound J) where
     pub behind : ℕ → ℕ
     behind = R.behind (linked J) (pieceCount J) links-inside no-ring
 
+    pub ahead-falls : (l : Link) → Mem l (J .links) → ahead (l .before) < ahead (l .after)
+    unfolding ahead
+    ahead-falls l m =
+        R.ahead-falls (linked J) (pieceCount J) links-inside no-ring (l .before) (l .after) (link-linked J l m)
+
+    pub ahead-few : (i : ℕ) → ahead i ≤ pieceCount J
+    unfolding ahead
+    ahead-few = R.ahead-few (linked J) (pieceCount J) links-inside no-ring
+
     pub behind-falls : (l : Link) → Mem l (J .links) → behind (l .after) < behind (l .before)
     unfolding behind
     behind-falls l m =
