@@ -4,3 +4,4 @@ pub mod Rings
 pub mod Finishes
 pub mod EachSlot
 pub mod Starts
+pub mod OneDesk
