@@ -5,3 +5,4 @@ pub mod Finishes
 pub mod EachSlot
 pub mod Starts
 pub mod OneDesk
+pub mod Best

@@ -73,7 +73,7 @@ module _ (J : Job) (sound : Sound J) (free : ringPiece J ≡ none) (d : ℕ) whe
   on-desk = mem-deskPieces J d
 
   -- The slots had by a piece of the desk are those of the desk's plan.
-  had-here : (t i : ℕ) → Mem i (deskPieces J d) → leftAt J t i + did (worked J d) i t ≡ duration J i
+  pub had-here : (t i : ℕ) → Mem i (deskPieces J d) → leftAt J t i + did (worked J d) i t ≡ duration J i
   had-here t i m =
       let w = on-desk i m in
       rw (w .1) at (left-and-had J t i (w .0))
@@ -81,7 +81,7 @@ module _ (J : Job) (sound : Sound J) (free : ringPiece J ≡ none) (d : ℕ) whe
   abbrev Lin : ℕ → ℕ → Type 0
   Lin t = Linked itself (ready J) (duration J) (isOpen J d) (linked J) (deskPieces J d) (worked J d) t
 
-  waits-linked : (t i : ℕ) → Mem i (deskPieces J d) → Waits J (workAt J t) d t i → Lin t i
+  pub waits-linked : (t i : ℕ) → Mem i (deskPieces J d) → Waits J (workAt J t) d t i → Lin t i
   waits-linked t i m w = record {
     hour = always-open J d t;
     ripe = R.ready-least J i t (ready-release J (workAt J t) t i (w .is-ready))
@@ -132,7 +132,7 @@ module _ (J : Job) (sound : Sound J) (free : ringPiece J ≡ none) (d : ℕ) whe
       let m : Mem i (deskPieces J d) = deskPieces-mem J d i (c .waits .inside) (c .waits .on-desk) in
       work i m e (waits-linked t i m (c .waits)) (λ f n k ne. c .first f (linked-waits t f n k) ne))
 
-  raised-moments : Raised (ready J) (raised J) (duration J) (openEnd J d) (linked J) (deskPieces J d)
+  pub raised-moments : Raised (ready J) (raised J) (duration J) (openEnd J d) (linked J) (deskPieces J d)
   raised-moments = record {
     above = λ i m. R.raised-ready J sound free i;
     later = λ a i k m b.

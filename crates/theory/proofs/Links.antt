@@ -46,17 +46,17 @@ module _ {E : Type 0} (num own raised dur : E → ℕ) (opens : ℕ → Bool) (o
   abbrev Can : ℕ → E → Type 0
   Can t = Candidate num raised dur opens w t
 
-  abbrev Lin : ℕ → E → Type 0
+  abbrev pub Lin : ℕ → E → Type 0
   Lin t = Linked num own dur opens before L w t
 
   -- nothing was worked on before its raised moment in the slots before t
-  abbrev Late : ℕ → Type 0
+  abbrev pub Late : ℕ → Type 0
   Late t = (s : ℕ) → s < t → (a : E) → a ∈ L → w s ≡ some (num a) → (raised a ≤ s) × (opens s ≡ true)
 
   module _ (H : Hours opens openEnd) (R : Raised own raised dur openEnd before L)
       (some-work : (e : E) → e ∈ L → 1 ≤ dur e) where
     -- an entry finished by t has come to its end by t
-    ended : (t : ℕ) → Late t → (a : E) → a ∈ L → dur a ≤ did w (num a) t → openEnd (raised a) (dur a) ≤ t
+    pub ended : (t : ℕ) → Late t → (a : E) → a ∈ L → dur a ≤ did w (num a) t → openEnd (raised a) (dur a) ≤ t
     ended t late a m done =
         by-le t (raised a)
         (λ h. absurd (omega (arith, none· t (omega arith) h, some-work a m)))
@@ -77,7 +77,7 @@ module _ {E : Type 0} (num own raised dur : E → ℕ) (opens : ℕ → Bool) (o
             (λ e. absurd (omega (arith, late s (omega arith) a m (Plans.works-some (w s) (num a) e) .0)))
             (λ e. e))
 
-    linked-raised : (t : ℕ) → Late t → (e : E) → e ∈ L → Lin t e → raised e ≤ t
+    pub linked-raised : (t : ℕ) → Late t → (e : E) → e ∈ L → Lin t e → raised e ≤ t
     linked-raised t late e m c = R .least e m t (c .ripe) (λ a n b. ended t late a n (c .ahead a n b))
 
     module _ (d : Distinct num L) (rule : ObeysLinks num own dur opens before sooner L w) where
