@@ -18,3 +18,5 @@ pub mod Turns
 pub mod Score
 pub mod RunCount
 pub mod RunSlots
+pub mod RunTruth
+pub mod RunOrder
