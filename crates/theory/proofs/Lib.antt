@@ -20,3 +20,4 @@ pub mod RunCount
 pub mod RunSlots
 pub mod RunTruth
 pub mod RunOrder
+pub mod Locality

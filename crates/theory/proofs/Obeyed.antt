@@ -22,7 +22,7 @@ use Rattle.theory.proofs.Rule.{Chooses, work, rest, Candidate, Obeys, m
 
 module _ {E : Type 0} (num ready dur : E → ℕ) (opens : ℕ → Bool) (sooner : E → E → Bool) where
   -- one more layer obeys the rule for one more entry
-  module _ (x : E) (L : List E) (d : Distinct num (x ∷ L)) (o : Ordered sooner (x ∷ L)) (w : Plan)
+  module _ (x : E) (L : List E) (d : Distinct num (x ∷ L)) (last : (f : E) → f ∈ L → sooner f x ≡ true) (w : Plan)
       (fresh : (s : ℕ) → isIt (w s) (num x) ≡ false) (t : ℕ) where
     abbrev v : Plan
     v = Layers.layer num ready dur opens x w
@@ -64,7 +64,7 @@ module _ {E : Type 0} (num ready dur : E → ℕ) (opens : ℕ → Bool) (sooner
         (moved num ready dur opens v w t e (same e m) c)
         (λ f n k apart.
             by-mem n
-            (λ p. rw p (o .0 e m))
+            (λ p. rw p (last e m))
             (λ n′. s f n′ (old f n′ k) apart))
     layer-misses h (rest q n) =
         rest (Layers.layer-miss num ready dur opens x w t h ∙ q)
@@ -81,17 +81,22 @@ module _ {E : Type 0} (num ready dur : E → ℕ) (opens : ℕ → Bool) (sooner
                 (omega (arith, own, c .left)))
             h
 
+  pub layer-obeys : (x : E) (L : List E) → Distinct num (x ∷ L) → ((f : E) → f ∈ L → sooner f x ≡ true) → (w : Plan)
+      → ((s : ℕ) → isIt (w s) (num x) ≡ false) → Obeys num ready dur opens sooner L w
+      → Obeys num ready dur opens sooner (x ∷ L) (Layers.layer num ready dur opens x w)
+  layer-obeys x L d last w fresh rule t =
+      by-test (Layers.takes num ready dur opens x w t)
+      (λ h. layer-hits x L d last w fresh t h (rule t))
+      (λ h. layer-misses x L d last w fresh t h (rule t))
+
   -- THE LAYERS OBEY THE RULE
   pub layers-obey : (L : List E) → Distinct num L → Ordered sooner L
       → Obeys num ready dur opens sooner L (Layers.layers num ready dur opens L)
   unfolding Layers.layers
   layers-obey [] d o t = rest refl (λ f m c. elim m [ ])
   layers-obey (x ∷ L) d o t =
-      let w : Plan = Layers.layers num ready dur opens L in
-      let fresh : (s : ℕ) → isIt (w s) (num x) ≡ false = Layers.layers-fresh num ready dur opens L (num x) (d .0) in
-      by-test (Layers.takes num ready dur opens x w t)
-      (λ h. layer-hits x L d o w fresh t h (layers-obey L (d .1) (o .1) t))
-      (λ h. layer-misses x L d o w fresh t h (layers-obey L (d .1) (o .1) t))
+      layer-obeys x L d (o .0) (Layers.layers num ready dur opens L)
+      (Layers.layers-fresh num ready dur opens L (num x) (d .0)) (layers-obey L (d .1) (o .1)) t
 
   -- the rule looks at who is in the list, and at nothing else of it
   pub obeys-members : (L K : List E) → ((e : E) → e ∈ L → e ∈ K) → ((e : E) → e ∈ K → e ∈ L) → (w : Plan)
