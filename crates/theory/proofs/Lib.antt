@@ -21,3 +21,4 @@ pub mod RunSlots
 pub mod RunTruth
 pub mod RunOrder
 pub mod Locality
+pub mod Gathered
