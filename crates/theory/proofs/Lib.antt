@@ -22,3 +22,4 @@ pub mod RunTruth
 pub mod RunOrder
 pub mod Locality
 pub mod Gathered
+pub mod EntryOrder
