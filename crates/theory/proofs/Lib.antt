@@ -23,3 +23,4 @@ pub mod RunOrder
 pub mod Locality
 pub mod Gathered
 pub mod EntryOrder
+pub mod SetAside
