@@ -3,17 +3,16 @@
 use mathlib.Core.Path.{_≡_, refl, sym, ap, _∙_}
 use mathlib.Core.Logic.{_⊎_, inl, inr, ⊎-elim}
 use mathlib.Core.Bool.{Bool, true, false}
-use mathlib.Core.Option.{Option, none, some, Option·some-injective}
+use mathlib.Core.Option.{Option, none, some}
 use mathlib.Core.List.{List}
 use Prim.Native.Nat.{ℕ, _≤_, _<_}
 use native.Mathlib.Omega.{arith}
 use Rattle.rules.specs.Words.{isIt, orElse}
-use Rattle.laws.proofs.Words.{by-test}
-use Rattle.theory.proofs.Cases.{clash}
 use Rattle.theory.proofs.Count.{cnt-ext}
 use Rattle.theory.proofs.Lists.{_∈_}
 use Rattle.theory.proofs.Plans as Plans
 use Rattle.theory.proofs.Plans.{Plan, busy, did}
+use Rattle.theory.proofs.Obeyed.{obeys-fresh}
 use Rattle.theory.proofs.Rule.{Chooses, work, rest, Candidate, Obeys, moved}
 
 pub orElse-some : (o p : Option ℕ) (i : ℕ) → o ≡ some i → orElse o p ≡ o
@@ -31,22 +30,13 @@ module _ {E : Type 0} (num ready dur : E → ℕ) (opens : ℕ → Bool) (sooner
   abbrev both : Plan
   both t = orElse (v t) (w t)
 
-  -- nobody of C is worked on before e, nobody but of A by v, nobody but of C by w
+  -- nobody of C is worked on before e
   quiet : (t : ℕ) → t < e → w t ≡ none
   quiet t h = go (rule′ t)
     where
       go : Chooses num sooner (Candidate num ready dur opens w t) C (w t) → w t ≡ none
       go (work c m q k s) = absurd (omega (arith, later c m, k .ripe))
       go (rest q n) = q
-
-  strange : (L K : List E) (u : Plan) → Obeys num ready dur opens sooner L u
-      → ((a c : E) → a ∈ L → c ∈ K → num a ≡ num c → ⊥) → (t : ℕ) (c : E) → c ∈ K → isIt (u t) (num c) ≡ false
-  strange L K u r far t c m =
-      by-test (isIt (u t) (num c)) (λ h. absurd (go (r t) (Plans.works-some (u t) (num c) h))) (λ h. h)
-    where
-      go : Chooses num sooner (Candidate num ready dur opens u t) L (u t) → u t ≡ some (num c) → ⊥
-      go (work a n q k s) p = far a c n m (Option·some-injective (num a) (num c) (sym q ∙ p))
-      go (rest q n) p = Plans.none-some (u t) (num c) q p
 
   same-first : (a : E) → a ∈ A → (t : ℕ) → did both (num a) t ≡ did v (num a) t
   same-first a m t = cnt-ext (λ s. isIt (both s) (num a)) (λ s. isIt (v s) (num a)) t (λ s h. at s)
@@ -56,7 +46,7 @@ module _ {E : Type 0} (num ready dur : E → ℕ) (opens : ℕ → Bool) (sooner
           Plans.by-who (v s)
           (λ q.
               ap (λ o. isIt o (num a)) (orElse-none (v s) (w s) q)
-              ∙ strange C A w rule′ (λ c x n k z. apart x c k n (sym z)) s a m
+              ∙ obeys-fresh num ready dur opens sooner C w rule′ (num a) (λ c n z. apart a c m n (sym z)) s
               ∙ sym (Plans.none-works (v s) (num a) q))
           (λ i q. ap (λ o. isIt o (num a)) (orElse-some (v s) (w s) i q))
 
@@ -69,7 +59,7 @@ module _ {E : Type 0} (num ready dur : E → ℕ) (opens : ℕ → Bool) (sooner
           (λ q. ap (λ o. isIt o (num c)) (orElse-none (v s) (w s) q))
           (λ i q.
               ap (λ o. isIt o (num c)) (orElse-some (v s) (w s) i q)
-              ∙ strange A C v rule apart s c m
+              ∙ obeys-fresh num ready dur opens sooner A v rule (num c) (λ a n z. apart a c n m z) s
               ∙ sym (Plans.none-works (w s) (num c) (quiet s (over s (Plans.some-busy (v s) i q)))))
 
   pub beside : (K : List E) → ((f : E) → f ∈ A → f ∈ K) → ((f : E) → f ∈ C → f ∈ K)

@@ -1,7 +1,7 @@
 -- The plan by layers obeys the rule; so the rule has exactly one plan, whatever the order in which the entries are
 -- listed. From the rule alone: such a plan is allowed, and rests in an open slot only if all that is ready is done.
 -- Assumes nothing.
-use mathlib.Core.Path.{_≡_, refl, sym, ap, _∙_}
+use mathlib.Core.Path.{_≡_, refl, sym, ap, _∙_, subst, fun-ext}
 use mathlib.Core.Bool.{Bool, true, false}
 use mathlib.Core.Option.{Option, none, some, Option·some-injective}
 use mathlib.Core.List.{List, [], _∷_}
@@ -107,6 +107,21 @@ module _ {E : Type 0} (num ready dur : E → ℕ) (opens : ℕ → Bool) (sooner
           → Chooses num sooner (Candidate num ready dur opens w t) K (w t)
       go (work e m q c s) = work e (to e m) q c (λ f n. s f (from f n))
       go (rest q n) = rest q (λ f m. n f (from f m))
+
+  pub obeys-ext : (L : List E) (v w : Plan) → ((t : ℕ) → v t ≡ w t) → Obeys num ready dur opens sooner L v
+      → Obeys num ready dur opens sooner L w
+  obeys-ext L v w same rule =
+      subst (λ (u : Plan). Obeys num ready dur opens sooner L u) (fun-ext {f = v} {g = w} same) rule
+
+  -- a number of no entry is never worked on
+  pub obeys-fresh : (L : List E) (w : Plan) → Obeys num ready dur opens sooner L w → (i : ℕ)
+      → ((e : E) → e ∈ L → num e ≡ i → ⊥) → (t : ℕ) → isIt (w t) i ≡ false
+  obeys-fresh L w rule i apart t =
+      by-test (isIt (w t) i) (λ h. absurd (go (rule t) (Plans.works-some (w t) i h))) (λ h. h)
+    where
+      go : Chooses num sooner (Candidate num ready dur opens w t) L (w t) → w t ≡ some i → ⊥
+      go (work e m q c s) p = apart e m (Option·some-injective (num e) i (sym q ∙ p))
+      go (rest q n) p = Plans.none-some (w t) i q p
 
   -- in an open slot the desk rests only if each entry that is ready is done
   pub obeys-idle : (L : List E) (w : Plan) → Obeys num ready dur opens sooner L w → (t : ℕ) → opens t ≡ true
