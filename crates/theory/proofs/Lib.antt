@@ -24,3 +24,4 @@ pub mod Locality
 pub mod Gathered
 pub mod EntryOrder
 pub mod SetAside
+pub mod OneBlock
