@@ -18,3 +18,10 @@ pub mod Turns
 pub mod Score
 pub mod RunCount
 pub mod RunSlots
+pub mod RunTruth
+pub mod RunOrder
+pub mod Locality
+pub mod Gathered
+pub mod EntryOrder
+pub mod SetAside
+pub mod OneBlock

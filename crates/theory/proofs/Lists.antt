@@ -1,10 +1,11 @@
 -- Lists of entries: membership, different numbers, an element that passes a test. Assumes nothing.
 use mathlib.Core.Path.{_≡_, refl, sym, ap, _∙_}
-use mathlib.Core.Logic.{_⊎_, inl, inr}
+use mathlib.Core.Logic.{_⊎_, inl, inr, ⊎-elim}
 use mathlib.Core.Bool.{Bool, true, false}
-use mathlib.Core.List.{List, [], _∷_, map, List·Memᴰ}
+use mathlib.Core.List.{List, [], _∷_, _++_, map, List·Memᴰ, List·Memᴰ·append-cases, List·Memᴰ·eq-of-singleton}
 use mathlib.Core.List.{List·Memᴰ·head as here, List·Memᴰ·tail as there}
 use Prim.Native.Nat.{ℕ, _+_}
+use native.Mathlib.Omega.{arith}
 use Rattle.rules.specs.Words.{oneOf, sum}
 use Rattle.laws.proofs.Words.{by-test, oneOf-found, oneOf-none}
 
@@ -40,6 +41,24 @@ module _ {A : Type 0} where
     same-number (x ∷ L) d a b (here p) (there n) e = absurd (d .0 b n (sym e ∙ ap num p))
     same-number (x ∷ L) d a b (there m) (here q) e = absurd (d .0 a m (e ∙ ap num q))
     same-number (x ∷ L) d a b (there m) (there n) e = same-number L (d .1) a b m n e
+
+-- one element more at the end
+pub sum-snoc : {A : Type 0} (f : A → ℕ) (L : List A) (x : A) → sumOf f (L ++ (x ∷ [])) ≡ sumOf f L + f x
+unfolding sum
+sum-snoc f [] x = omega arith
+sum-snoc f (y ∷ L) x = omega (arith, sum-snoc f L x)
+
+pub distinct-snoc : {A : Type 0} (num : A → ℕ) (L : List A) (x : A) → Distinct num L
+    → ((a : A) → a ∈ L → num a ≡ num x → ⊥) → Distinct num (L ++ (x ∷ []))
+distinct-snoc num [] x d apart = (λ a m. elim m [ ], tt)
+distinct-snoc num (y ∷ L) x d apart =
+    ( λ a m e.
+        ⊎-elim
+        (λ n. d .0 a n e)
+        (λ n. apart y (here refl) (sym e ∙ ap num (List·Memᴰ·eq-of-singleton n)))
+        (List·Memᴰ·append-cases L m)
+    , distinct-snoc num L x (d .1) (λ a m. apart a (there m))
+    )
 
 -- an element of a mapped list comes from one of the list
 pub map-mem : {A B : Type 0} (f : A → B) (L : List A) (y : B) → y ∈ map f L → (a : A) × (a ∈ L) × (y ≡ f a)

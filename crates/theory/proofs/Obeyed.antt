@@ -1,7 +1,7 @@
 -- The plan by layers obeys the rule; so the rule has exactly one plan, whatever the order in which the entries are
 -- listed. From the rule alone: such a plan is allowed, and rests in an open slot only if all that is ready is done.
 -- Assumes nothing.
-use mathlib.Core.Path.{_≡_, refl, sym, ap, _∙_}
+use mathlib.Core.Path.{_≡_, refl, sym, ap, _∙_, subst, fun-ext}
 use mathlib.Core.Bool.{Bool, true, false}
 use mathlib.Core.Option.{Option, none, some, Option·some-injective}
 use mathlib.Core.List.{List, [], _∷_}
@@ -22,7 +22,7 @@ use Rattle.theory.proofs.Rule.{Chooses, work, rest, Candidate, Obeys, m
 
 module _ {E : Type 0} (num ready dur : E → ℕ) (opens : ℕ → Bool) (sooner : E → E → Bool) where
   -- one more layer obeys the rule for one more entry
-  module _ (x : E) (L : List E) (d : Distinct num (x ∷ L)) (o : Ordered sooner (x ∷ L)) (w : Plan)
+  module _ (x : E) (L : List E) (d : Distinct num (x ∷ L)) (last : (f : E) → f ∈ L → sooner f x ≡ true) (w : Plan)
       (fresh : (s : ℕ) → isIt (w s) (num x) ≡ false) (t : ℕ) where
     abbrev v : Plan
     v = Layers.layer num ready dur opens x w
@@ -46,13 +46,12 @@ module _ {E : Type 0} (num ready dur : E → ℕ) (opens : ℕ → Bool) (sooner
         (record {
           hour = Layers.chance-open num ready dur opens x w t chance;
           ripe = Layers.chance-ready num ready dur opens x w t chance;
-          left = omega (arith, own, Layers.takes-left num ready dur opens x w t h);
+          left = omega (arith, own, Layers.takes-left num ready dur opens x w t h)
         })
         (λ f m k apart. by-mem m (λ p. absurd (apart (ap num p))) (λ n. absurd (nobody c f n (old f n k))))
       where
         chance : Layers.chance num ready dur opens x w t ≡ true
         chance = Layers.takes-chance num ready dur opens x w t h
-
         nobody : Chooses num sooner (Can w) L (w t) → (f : E) → f ∈ L → Can w f → ⊥
         nobody (work e m q k s) f n j =
             clash (Plans.some-busy (w t) (num e) q) (Layers.chance-free num ready dur opens x w t chance)
@@ -64,23 +63,31 @@ module _ {E : Type 0} (num ready dur : E → ℕ) (opens : ℕ → Bool) (sooner
         work e (there m) (Layers.layer-miss num ready dur opens x w t h ∙ q)
         (moved num ready dur opens v w t e (same e m) c)
         (λ f n k apart.
-        by-mem n
-        (λ p. rw p (o .0 e m))
-        (λ n′. s f n′ (old f n′ k) apart))
+            by-mem n
+            (λ p. rw p (last e m))
+            (λ n′. s f n′ (old f n′ k) apart))
     layer-misses h (rest q n) =
         rest (Layers.layer-miss num ready dur opens x w t h ∙ q)
         (λ f m c.
-        by-mem m
-        (λ p. done (rw p at c))
-        (λ n′. n f n′ (old f n′ c)))
+            by-mem m
+            (λ p. done (rw p at c))
+            (λ n′. n f n′ (old f n′ c)))
       where
         done : Can v x → ⊥
         done c =
             clash
             (Layers.takes-when num ready dur opens x w t
-            (Layers.chance-when num ready dur opens x w t (c .hour) (c .ripe) (Plans.none-busy (w t) q))
-            (omega (arith, own, c .left)))
+                (Layers.chance-when num ready dur opens x w t (c .hour) (c .ripe) (Plans.none-busy (w t) q))
+                (omega (arith, own, c .left)))
             h
+
+  pub layer-obeys : (x : E) (L : List E) → Distinct num (x ∷ L) → ((f : E) → f ∈ L → sooner f x ≡ true) → (w : Plan)
+      → ((s : ℕ) → isIt (w s) (num x) ≡ false) → Obeys num ready dur opens sooner L w
+      → Obeys num ready dur opens sooner (x ∷ L) (Layers.layer num ready dur opens x w)
+  layer-obeys x L d last w fresh rule t =
+      by-test (Layers.takes num ready dur opens x w t)
+      (λ h. layer-hits x L d last w fresh t h (rule t))
+      (λ h. layer-misses x L d last w fresh t h (rule t))
 
   -- THE LAYERS OBEY THE RULE
   pub layers-obey : (L : List E) → Distinct num L → Ordered sooner L
@@ -88,11 +95,8 @@ module _ {E : Type 0} (num ready dur : E → ℕ) (opens : ℕ → Bool) (sooner
   unfolding Layers.layers
   layers-obey [] d o t = rest refl (λ f m c. elim m [ ])
   layers-obey (x ∷ L) d o t =
-      let w : Plan = Layers.layers num ready dur opens L in
-      let fresh : (s : ℕ) → isIt (w s) (num x) ≡ false = Layers.layers-fresh num ready dur opens L (num x) (d .0) in
-      by-test (Layers.takes num ready dur opens x w t)
-      (λ h. layer-hits x L d o w fresh t h (layers-obey L (d .1) (o .1) t))
-      (λ h. layer-misses x L d o w fresh t h (layers-obey L (d .1) (o .1) t))
+      layer-obeys x L d (o .0) (Layers.layers num ready dur opens L)
+      (Layers.layers-fresh num ready dur opens L (num x) (d .0)) (layers-obey L (d .1) (o .1)) t
 
   -- the rule looks at who is in the list, and at nothing else of it
   pub obeys-members : (L K : List E) → ((e : E) → e ∈ L → e ∈ K) → ((e : E) → e ∈ K → e ∈ L) → (w : Plan)
@@ -103,6 +107,21 @@ module _ {E : Type 0} (num ready dur : E → ℕ) (opens : ℕ → Bool) (sooner
           → Chooses num sooner (Candidate num ready dur opens w t) K (w t)
       go (work e m q c s) = work e (to e m) q c (λ f n. s f (from f n))
       go (rest q n) = rest q (λ f m. n f (from f m))
+
+  pub obeys-ext : (L : List E) (v w : Plan) → ((t : ℕ) → v t ≡ w t) → Obeys num ready dur opens sooner L v
+      → Obeys num ready dur opens sooner L w
+  obeys-ext L v w same rule =
+      subst (λ (u : Plan). Obeys num ready dur opens sooner L u) (fun-ext {f = v} {g = w} same) rule
+
+  -- a number of no entry is never worked on
+  pub obeys-fresh : (L : List E) (w : Plan) → Obeys num ready dur opens sooner L w → (i : ℕ)
+      → ((e : E) → e ∈ L → num e ≡ i → ⊥) → (t : ℕ) → isIt (w t) i ≡ false
+  obeys-fresh L w rule i apart t =
+      by-test (isIt (w t) i) (λ h. absurd (go (rule t) (Plans.works-some (w t) i h))) (λ h. h)
+    where
+      go : Chooses num sooner (Candidate num ready dur opens w t) L (w t) → w t ≡ some i → ⊥
+      go (work e m q c s) p = apart e m (Option·some-injective (num e) i (sym q ∙ p))
+      go (rest q n) p = Plans.none-some (w t) i q p
 
   -- in an open slot the desk rests only if each entry that is ready is done
   pub obeys-idle : (L : List E) (w : Plan) → Obeys num ready dur opens sooner L w → (t : ℕ) → opens t ≡ true
@@ -126,11 +145,11 @@ module _ {E : Type 0} (num ready dur : E → ℕ) (opens : ℕ → Bool) (sooner
     obeys-most e m (suc t) =
         by-test (isIt (w t) (num e))
         (λ h.
-        omega (
-          arith,
-          cnt-hit (λ s. isIt (w s) (num e)) t h,
-          obeys-candidate t e m (Plans.works-some (w t) (num e) h) .left,
-        ))
+            omega
+            ( arith
+            , cnt-hit (λ s. isIt (w s) (num e)) t h
+            , obeys-candidate t e m (Plans.works-some (w t) (num e) h) .left
+            ))
         (λ h. omega (arith, cnt-miss (λ s. isIt (w s) (num e)) t h, obeys-most e m t))
 
     pub obeys-allowed : Allowed num ready dur opens L w
@@ -140,7 +159,7 @@ module _ {E : Type 0} (num ready dur : E → ℕ) (opens : ℕ → Bool) (sooner
           let r = known t i p (rule t) in
           obeys-candidate t (r .0) (r .1) (p ∙ ap some (sym (r .2))) .hour;
       after = λ e m t p. obeys-candidate t e m p .ripe;
-      most = obeys-most;
+      most = obeys-most
     }
       where
         known : (t i : ℕ) → w t ≡ some i → Chooses num sooner (Candidate num ready dur opens w t) L (w t)

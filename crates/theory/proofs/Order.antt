@@ -4,7 +4,7 @@ use mathlib.Core.Path.{_≡_, refl, sym, ap, _∙_}
 use mathlib.Core.Bool.{Bool, true, false}
 use mathlib.Core.List.{List, [], _∷_}
 use mathlib.Core.List.{List·Memᴰ·head as here, List·Memᴰ·tail as there}
-use Prim.Native.Nat.{ℕ, suc, _+_}
+use Prim.Native.Nat.{ℕ, suc, _+_, _≤_}
 use native.Mathlib.Omega.{arith}
 use lib.ListN.{length}
 use Rattle.laws.proofs.Words.{by-test}
@@ -14,6 +14,11 @@ pub record Urgency {E : Type 0} (num : E → ℕ) (sooner : E → E → Bool) : 
   pub asym : (a b : E) → sooner a b ≡ true → sooner b a ≡ true → ⊥
   pub trans : (a b c : E) → sooner a b ≡ true → sooner b c ≡ true → sooner a c ≡ true
   pub total : (a b : E) → (num a ≡ num b → ⊥) → sooner a b ≡ false → sooner b a ≡ true
+
+-- no number behind is smaller
+abbrev pub Climbs : {E : Type 0} → (E → ℕ) → List E → Type 0
+Climbs key [] = Unit {0}
+Climbs {E} key (x ∷ L) = ((f : E) → f ∈ L → key x ≤ key f) × Climbs key L
 
 module _ {E : Type 0} (sooner : E → E → Bool) where
   -- each entry is less urgent than all behind it
@@ -105,6 +110,30 @@ module _ {E : Type 0} (sooner : E → E → Bool) where
   unfolding sorted
   sorted-length [] = refl
   sorted-length (x ∷ L) = insert-length x (sorted L) ∙ ap suc (sorted-length L)
+
+  -- by a number that the order follows, sorting makes it fall or stay from the back to the front
+  module _ (key : E → ℕ) (front : (x y : E) → sooner y x ≡ true → key x ≤ key y)
+      (behind : (x y : E) → sooner y x ≡ false → key y ≤ key x) where
+    insert-climbs : (x : E) (L : List E) → Climbs key L → Climbs key (insert x L)
+    unfolding insert
+    insert-climbs x [] c = (λ f m. elim m [ ], tt)
+    insert-climbs x (y ∷ L) c =
+        by-test (sooner y x)
+        (λ h.
+            rw (insert-front x y L h)
+            ( λ f m. by-mem m (λ p. rw p (front x y h)) (λ n. omega (arith, front x y h, c .0 f n))
+            , c
+            ))
+        (λ h.
+            rw (insert-behind x y L h)
+            ( λ f m. insert-from x L f m (λ p. rw p (behind x y h)) (λ n. c .0 f n)
+            , insert-climbs x L (c .1)
+            ))
+
+    pub sorted-climbs : (L : List E) → Climbs key (sorted L)
+    unfolding sorted
+    sorted-climbs [] = tt
+    sorted-climbs (x ∷ L) = insert-climbs x (sorted L) (sorted-climbs L)
 
   module _ (num : E → ℕ) where
     insert-distinct : (x : E) (L : List E) → ((e : E) → e ∈ L → num e ≡ num x → ⊥) → Distinct num L

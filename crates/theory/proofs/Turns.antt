@@ -53,6 +53,10 @@ pub rise-open : (opens : ℕ → Bool) (h : ℕ) → Rise (keep opens (below h))
 unfolding below
 rise-open opens h = rise-keep opens (row 0 h) (rise-row h 0)
 
+pub runs-over : (u : Option Run) → runsFrom u [] ≡ closing u []
+unfolding runsFrom
+runs-over u = refl
+
 module _ (x : Turn) (xs : List Turn) where
   -- nobody is worked on: the run under way ends
   pub runs-rest : (u : Option Run) → x .who ≡ none → runsFrom u (x ∷ xs) ≡ closing u (runsFrom none xs)
