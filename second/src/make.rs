@@ -5,6 +5,7 @@
 mod chance;
 mod damaged;
 mod draft;
+mod mixed;
 mod odd;
 mod shapes;
 

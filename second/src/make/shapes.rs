@@ -1,23 +1,9 @@
-//! Sound job files of many shapes, each aimed at one thing that a planner may get wrong. All
-//! links run along a random order of the pieces, so no shape has a ring and none relies on the
-//! numbering.
+//! Sound job files of many shapes, each aimed at one thing that a planner may get wrong. No shape
+//! has a ring, and hardly any relies on the numbering of its pieces.
 
 use super::chance::Chance;
 use super::draft::Draft;
-
-/// The greatest values a shape draws; smallest are 0, and 1 for durations.
-#[derive(Clone, Copy)]
-struct Bounds {
-    desks: u64,
-    duration: u64,
-    release: u64,
-    due: u64,
-    handover: u64,
-}
-
-const SMALL: Bounds = Bounds { desks: 3, duration: 6, release: 12, due: 30, handover: 5 };
-const LARGEST: Bounds =
-    Bounds { desks: 32, duration: 960, release: 40_000, due: 40_000, handover: 480 };
+use super::mixed::{add_links, mixed, Bounds, LARGEST, SMALL};
 
 /// A sound file of a random shape.
 pub fn draft(chance: &mut Chance) -> Draft {
@@ -170,38 +156,4 @@ fn longest(chance: &mut Chance) -> Draft {
 fn one_desk(chance: &mut Chance) -> Draft {
     let (pieces, links) = (chance.between(5, 60) as usize, chance.below(40) as usize);
     mixed(chance, pieces, links, Bounds { desks: 1, release: 80, due: 200, ..SMALL })
-}
-
-fn mixed(chance: &mut Chance, pieces: usize, links: usize, bounds: Bounds) -> Draft {
-    let mut draft = Draft::default();
-    let first_desk = if chance.one_in(2) { chance.between(0, 32 - bounds.desks) } else { 0 };
-    for _ in 0..pieces {
-        draft.piece(
-            first_desk + chance.below(bounds.desks),
-            chance.between(1, bounds.duration),
-            chance.between(0, bounds.release),
-            chance.between(0, bounds.due),
-        );
-    }
-    add_links(chance, &mut draft, links, |chance| chance.between(0, bounds.handover));
-    draft
-}
-
-/// Adds links along one random order of the pieces.
-fn add_links(
-    chance: &mut Chance,
-    draft: &mut Draft,
-    links: usize,
-    handover: impl Fn(&mut Chance) -> u64,
-) {
-    let pieces = draft.pieces.len();
-    if pieces < 2 {
-        return;
-    }
-    let order = chance.shuffled(pieces);
-    for _ in 0..links {
-        let second = chance.between(1, pieces as u64 - 1);
-        let first = chance.below(second);
-        draft.link(order[first as usize], order[second as usize], handover(chance));
-    }
 }

@@ -1,6 +1,7 @@
 //! The tests of the second planner. Expectations are worked out by hand from the rules page, or
 //! checked by code that decides whether an answer is right instead of working one out.
 
+mod agreement;
 mod best;
 mod block_method;
 mod bounds;

