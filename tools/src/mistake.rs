@@ -1,4 +1,5 @@
-//! A mistake in what a person gave, with the line it stands in, so that it can be found and mended.
+//! A mistake in what a person gave. It carries the line it stands in, so that it can be found and
+//! mended.
 
 use std::fmt;
 

@@ -1,5 +1,5 @@
-//! How slots go into the columns of a terminal: several columns for a slot in a short plan,
-//! several slots in a column in a long one.
+//! How slots go into the columns of a terminal. A short plan gets several columns for a slot, a
+//! long one several slots in a column.
 
 use crate::time::length;
 

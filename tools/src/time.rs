@@ -1,4 +1,5 @@
-//! Slots of a quarter-hour in words, and the marks on a time axis.
+//! Slots of a quarter-hour in words, and the marks on a time axis. Marks fall on quarters, hours
+//! and days rather than on round numbers of slots.
 
 /// A stretch of slots as hours and minutes.
 pub fn length(slots: i64) -> String {

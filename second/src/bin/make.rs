@@ -1,5 +1,5 @@
-//! Writes the random file of a seed and an index to standard output, so that a file on which two
-//! planners differ can be looked at.
+//! Writes the random file of a seed and an index to standard output. It is meant for a file on
+//! which two planners differ and that someone wants to look at.
 
 use std::io::{self, Write};
 use std::process::ExitCode;

@@ -1,4 +1,5 @@
-//! Pieces and links drawn at random within bounds, the stuff that most shapes are made of.
+//! Pieces and links drawn at random within bounds, the stuff that most shapes are made of. Links
+//! run along a random order of the pieces, so that no ring comes about.
 
 use super::chance::Chance;
 use super::draft::Draft;

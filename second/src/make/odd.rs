@@ -1,5 +1,5 @@
-//! Files that were hardly meant as job files: noise, half noise, files cut off in the middle,
-//! files with bytes changed by accident, and files longer than the deciding bytes.
+//! Files that were hardly meant as job files: noise, half noise, files cut off in the middle and
+//! files with bytes changed by accident. Files longer than the deciding bytes come here too.
 
 use super::chance::Chance;
 use super::draft::{link, piece, Draft};

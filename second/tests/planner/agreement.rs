@@ -1,5 +1,6 @@
-//! Whether the calls agree with each other and with themselves on random files: a file and its
-//! front, the reader and the ring check, the plan and the runs call, the plan and its listing.
+//! Whether the calls agree with each other and with themselves on random files. Compared are a file
+//! and its front, the reader and the ring check, the plan and the runs call, and the plan and its
+//! listing.
 
 use crate::checks::Facts;
 use crate::notation::{rows, Row};

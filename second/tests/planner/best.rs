@@ -1,4 +1,4 @@
-//! The smallest worst lateness of a tiny desk, by trying every allowed plan: in each slot the desk
+//! The smallest worst lateness of a tiny desk, by trying every allowed plan. In each slot the desk
 //! rests or works on any piece that is ready and whose pieces before it on the desk are finished.
 
 use crate::checks::{Facts, Shown};

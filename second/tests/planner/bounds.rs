@@ -1,5 +1,5 @@
-//! Every bound of the page from both sides, and the extreme plans it names: the last moment there
-//! can be and the lowest latest moment.
+//! Every bound of the page from both sides. With them go the extreme plans it names: the last
+//! moment there can be, the lowest latest moment and the most runs.
 
 use crate::notation::{front_rows, link, marked, piece};
 use crate::refusals::{accepted, refusal};

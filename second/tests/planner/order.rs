@@ -1,5 +1,5 @@
-//! Which of two faults is the refusal: the order of judgement inside one record, between records
-//! and after the last of them.
+//! Which of two faults is the refusal. The order of judgement is tried inside one record, between
+//! records and after the last of them.
 
 use crate::notation::{link, marked, piece, with};
 use crate::refusals::refusal;

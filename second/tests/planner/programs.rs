@@ -1,5 +1,5 @@
-//! The two programs as a person runs them: the naive twin of `deskplan` and the maker of random
-//! files.
+//! The two programs as a person runs them. One is the naive twin of `deskplan`, the other the maker
+//! of random files.
 
 use crate::notation::sheet;
 use second::make;

@@ -1,5 +1,5 @@
-//! What the random files reach: every refusal, every shape of plan that the other tests lean on,
-//! and the same file again for the same seed and index.
+//! What the random files reach: every refusal and every shape of plan that the other tests lean on.
+//! Without this a random test could pass because nothing of interest ever came.
 
 use crate::checks::Facts;
 use second::job::accept;

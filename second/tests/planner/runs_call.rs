@@ -1,4 +1,5 @@
-//! The runs of one desk over records of a plan and over bytes that are no plan at all.
+//! The runs of one desk, over records of a plan and over bytes that are no plan at all. The call
+//! refuses nothing, so odd bytes matter as much as good ones.
 
 use crate::notation::{bytes, marked, sheet};
 use second::{make, plan, runs};

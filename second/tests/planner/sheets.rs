@@ -1,5 +1,5 @@
-//! The sheets P1 to P10 of the page: answers, whole buffers with marks behind the records, block
-//! sheets of every desk that has pieces, and P1's listing to the byte.
+//! The sheets P1 to P10 of the page: answers and whole buffers with marks behind the records. Block
+//! sheets are drawn for every desk that has pieces, and P1's listing is held to the byte.
 
 use crate::notation::{bytes, front_rows, marked, sheet, Row, MARK};
 use second::{blocks, listing, plan, BlockAnswer, PlanAnswer};
