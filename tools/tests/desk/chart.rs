@@ -1,4 +1,4 @@
-//! Charts for the terminal, drawn by hand and compared letter by letter.
+//! Charts for the terminal, compared letter by letter. The expected ones were drawn by hand.
 
 use crate::{planned, P1_LISTING};
 use desktools::chart::chart;

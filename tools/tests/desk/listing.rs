@@ -1,4 +1,5 @@
-//! Listings as `deskplan` prints them, and listings that it does not print.
+//! Listings as `deskplan` prints them, and listings that it does not print. Of the latter each has
+//! one thing changed, and what is said about it is expected to the letter.
 
 use crate::{planned, P1_LISTING};
 use desktools::listing::{read, Listing, Piece, Plan, Run};

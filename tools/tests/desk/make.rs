@@ -1,4 +1,5 @@
-//! Job files out of the text form: what is written where, and what is said about mistakes.
+//! Job files out of the text form. The tests say what is written where, and what is told about
+//! mistakes.
 
 use crate::{P1_BYTES, P1_TEXT};
 use desktools::make::make;

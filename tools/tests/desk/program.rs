@@ -1,4 +1,5 @@
-//! The program as a person calls it.
+//! The program as a person calls it. Good output goes to one stream and complaints to the other,
+//! never both.
 
 use crate::{P1_BYTES, P1_LISTING, P1_TEXT};
 use std::io::Write;

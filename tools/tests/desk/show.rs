@@ -1,4 +1,4 @@
-//! The text form of job files, and that every file is made again from what is shown of it.
+//! The text form of job files. Every file, however odd, is made again from what is shown of it.
 
 use crate::{P1_BYTES, P1_TEXT};
 use desktools::make::make;

@@ -1,4 +1,4 @@
-//! Whether a picture is well-formed XML, as far as the pictures go: elements nest and are closed,
+//! Whether a picture is well-formed XML, as far as the pictures go. Elements nest and are closed,
 //! attributes are quoted and named once, and texts hold nothing that would need escaping.
 
 /// The elements in the order they open, each with its attributes; panics where XML is broken.

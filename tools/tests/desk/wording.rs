@@ -1,4 +1,4 @@
-//! Times and sentences that both charts use.
+//! Times and sentences that both charts use. Each is expected word by word.
 
 use desktools::time::{hour, length, marks};
 use desktools::words::{count, lateness, refusal};
