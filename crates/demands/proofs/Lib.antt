@@ -7,3 +7,4 @@ pub mod Starts
 pub mod OneDesk
 pub mod Best
 pub mod Runs
+pub mod Answers
