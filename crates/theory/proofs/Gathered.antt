@@ -34,6 +34,9 @@ module _ {E : Type 0} (num ready dur : E → ℕ) (opens : ℕ → Bool) where
   Chained from K = (w : Plan) (t : ℕ) → from ≤ t → Within w from K
       → ((m : E) → m ∈ K → ready m ≤ t → dur m ≤ did w (num m) t) → (m : E) → m ∈ K → ready m ≤ t
 
+  pub chained-one : (e : E) → Chained (ready e) (e ∷ [])
+  chained-one e w t h within done m n = let p : m ≡ e = List·Memᴰ·eq-of-singleton n in rw p h
+
   -- the work on K
   abbrev onto : List E → Option ℕ → Bool
   onto K = on num (λ m. true) K
@@ -66,9 +69,6 @@ module _ {E : Type 0} (num ready dur : E → ℕ) (opens : ℕ → Bool) where
         , sum-le dur (λ m. part true (did w (num m) t)) K
           (λ m n. omega (arith, done m n, part-true true (did w (num m) t) refl))
         ))
-
-    pub chained-one : (e : E) → Chained (ready e) (e ∷ [])
-    chained-one e w t h within done m n = let p : m ≡ e = List·Memᴰ·eq-of-singleton n in rw p h
 
     pub chained-more : (from : ℕ) (K : List E) (e : E) → Distinct num K → Chained from K
         → ready e < openEnd from (sumOf dur K) → Chained from (K ++ (e ∷ []))

@@ -25,3 +25,4 @@ pub mod Gathered
 pub mod EntryOrder
 pub mod SetAside
 pub mod OneBlock
+pub mod BlockMethod
