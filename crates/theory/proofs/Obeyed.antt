@@ -134,38 +134,45 @@ module _ {E : Type 0} (num ready dur : E → ℕ) (opens : ℕ → Bool) (sooner
       nobody (work f n p c s) k = Plans.none-some (w t) (num f) q p
       nobody (rest p n) k = n e m k
 
-  module _ (L : List E) (d : Distinct num L) (w : Plan) (rule : Obeys num ready dur opens sooner L w) where
-    -- who is worked on is a candidate
-    pub obeys-candidate : (t : ℕ) (e : E) → e ∈ L → w t ≡ some (num e) → Candidate num ready dur opens w t e
-    obeys-candidate t e m p =
-        chosen num sooner (Candidate num ready dur opens w t) L d (w t) (rule t) e m p
+  -- whoever chooses among candidates, of whom it may ask more than the rule does, makes an allowed plan
+  module _ (L : List E) (d : Distinct num L) (w : Plan) (C : ℕ → E → Type 0)
+      (less : (t : ℕ) (e : E) → C t e → Candidate num ready dur opens w t e)
+      (choice : (t : ℕ) → Chooses num sooner (C t) L (w t)) where
+    worked-candidate : (t : ℕ) (e : E) → e ∈ L → w t ≡ some (num e) → Candidate num ready dur opens w t e
+    worked-candidate t e m p = less t e (chosen num sooner (C t) L d (w t) (choice t) e m p)
 
-    obeys-most : (e : E) → e ∈ L → (t : ℕ) → did w (num e) t ≤ dur e
-    obeys-most e m zero = omega (arith, cnt-zero (λ s. isIt (w s) (num e)))
-    obeys-most e m (suc t) =
+    worked-most : (e : E) → e ∈ L → (t : ℕ) → did w (num e) t ≤ dur e
+    worked-most e m zero = omega (arith, cnt-zero (λ s. isIt (w s) (num e)))
+    worked-most e m (suc t) =
         by-test (isIt (w t) (num e))
         (λ h.
             omega
             ( arith
             , cnt-hit (λ s. isIt (w s) (num e)) t h
-            , obeys-candidate t e m (Plans.works-some (w t) (num e) h) .left
+            , worked-candidate t e m (Plans.works-some (w t) (num e) h) .left
             ))
-        (λ h. omega (arith, cnt-miss (λ s. isIt (w s) (num e)) t h, obeys-most e m t))
+        (λ h. omega (arith, cnt-miss (λ s. isIt (w s) (num e)) t h, worked-most e m t))
 
-    pub obeys-allowed : Allowed num ready dur opens L w
-    obeys-allowed = record {
-      known = λ t i p. known t i p (rule t);
+    pub choice-allowed : Allowed num ready dur opens L w
+    choice-allowed = record {
+      known = λ t i p. known t i p (choice t);
       hours = λ t i p.
-          let r = known t i p (rule t) in
-          obeys-candidate t (r .0) (r .1) (p ∙ ap some (sym (r .2))) .hour;
-      after = λ e m t p. obeys-candidate t e m p .ripe;
-      most = obeys-most
+          let r = known t i p (choice t) in
+          worked-candidate t (r .0) (r .1) (p ∙ ap some (sym (r .2))) .hour;
+      after = λ e m t p. worked-candidate t e m p .ripe;
+      most = worked-most
     }
       where
-        known : (t i : ℕ) → w t ≡ some i → Chooses num sooner (Candidate num ready dur opens w t) L (w t)
-            → (e : E) × (e ∈ L) × (num e ≡ i)
+        known : (t i : ℕ) → w t ≡ some i → Chooses num sooner (C t) L (w t) → (e : E) × (e ∈ L) × (num e ≡ i)
         known t i p (work e m q c s) = (e, m, Option·some-injective (num e) i (sym q ∙ p))
         known t i p (rest q n) = absurd (Plans.none-some (w t) i q p)
+
+  module _ (L : List E) (d : Distinct num L) (w : Plan) (rule : Obeys num ready dur opens sooner L w) where
+    pub obeys-candidate : (t : ℕ) (e : E) → e ∈ L → w t ≡ some (num e) → Candidate num ready dur opens w t e
+    obeys-candidate = worked-candidate L d w (Candidate num ready dur opens w) (λ t e c. c) rule
+
+    pub obeys-allowed : Allowed num ready dur opens L w
+    obeys-allowed = choice-allowed L d w (Candidate num ready dur opens w) (λ t e c. c) rule
 
   module _ (U : Urgency num sooner) where
     -- THE RULE IS THE LAYERS over the sorted list, so it has exactly one plan
