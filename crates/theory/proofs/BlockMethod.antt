@@ -2,8 +2,8 @@
 -- over before the entries of the next are ready; a block is planned by the rule if the others of it are; and these are
 -- fewer. Assumes nothing.
 use mathlib.Core.Path.{_≡_, refl, sym, ap, _∙_, subst}
-use mathlib.Core.Logic.{_⊎_, inl, inr, ⊎-elim}
-use mathlib.Core.Bool.{Bool, true, false, _||_, _&&_}
+use mathlib.Core.Logic.{⊎-elim}
+use mathlib.Core.Bool.{Bool, true, false, _&&_}
 use mathlib.Core.Option.{Option, none, some}
 use mathlib.Core.List.{List, [], _∷_, _++_, append-nil, append-assoc, List·Memᴰ·append-cases, List·Memᴰ·eq-of-singleton, Memᴰ·append-left, Memᴰ·append-right}
 use mathlib.Core.List.{List·Memᴰ·head as here, List·Memᴰ·tail as there}
@@ -17,18 +17,18 @@ use Rattle.rules.specs.Entries.{Entry}
 use Rattle.rules.specs.Blocks.{Block, blockOf, gathered, readyFirst, placed, inOrder, blockEnd, gather, cutInOrder, cut, others, inBlock, inBlocks, setWorked}
 use Rattle.laws.proofs.Words.{by-test, and-true, or-false}
 use Rattle.theory.proofs.Cases.{by-or}
-use Rattle.theory.proofs.Lists.{_∈_, by-mem, Distinct, sumOf, sum-snoc, distinct-snoc}
+use Rattle.theory.proofs.Lists.{_∈_, by-mem, Distinct, sum-snoc, distinct-snoc}
 use Rattle.theory.proofs.Order.{Climbs, insert, sorted, mem-sorted, sorted-mem, sorted-distinct, sorted-length, sorted-climbs}
 use Rattle.theory.proofs.Hours.{Hours}
 use Rattle.theory.proofs.Plans.{Plan, busy}
 use Rattle.theory.proofs.Layers as Layers
-use Rattle.theory.proofs.Rule.{Obeys, rest}
+use Rattle.theory.proofs.Rule.{rest}
 use Rattle.theory.proofs.Obeyed.{obeys-members, obeys-ext, obeys-layers, obeys-unique}
 use Rattle.theory.proofs.Locality.{beside}
 use Rattle.theory.proofs.Gathered.{chained-one, chained-more}
 use Rattle.theory.proofs.EntryOrder.{number, urgent, entry-urgency}
 use Rattle.theory.proofs.SetAside.{others-shorter, mem-others, others-distinct}
-use Rattle.theory.proofs.OneBlock.{readyAt, lasting, ObeysFor, Sound, works, block-obeys, block-over}
+use Rattle.theory.proofs.OneBlock.{readyAt, lasting, ObeysFor, Sound, block-obeys, block-over}
 
 -- the order by ready moment, then number, is a sorting
 abbrev waits : Entry → Entry → Bool

@@ -2,21 +2,20 @@
 -- The rule's plan of such entries works in every open slot of the block and in no other: were it idle in one, then all
 -- that is ready is done; so one after the other every entry is ready and done, and the block is over. Assumes nothing.
 use mathlib.Core.Path.{_≡_, refl, sym, ap, _∙_}
-use mathlib.Core.Logic.{_⊎_, inl, inr, ⊎-elim}
+use mathlib.Core.Logic.{⊎-elim}
 use mathlib.Core.Bool.{Bool, true, false, _&&_}
-use mathlib.Core.Option.{Option, none, some}
-use mathlib.Core.List.{List, [], _∷_, _++_, List·Memᴰ·append-cases, List·Memᴰ·eq-of-singleton, Memᴰ·append-left, Memᴰ·append-right}
-use mathlib.Core.List.{List·Memᴰ·head as here, List·Memᴰ·tail as there}
+use mathlib.Core.Option.{Option, some}
+use mathlib.Core.List.{List, [], _∷_, _++_, List·Memᴰ·append-cases, List·Memᴰ·eq-of-singleton, Memᴰ·append-left}
 use Prim.Native.Nat.{ℕ, _+_, _≤_, _<_}
 use native.Mathlib.Omega.{arith}
 use lib.Dec.{leb, ltb}
 use borrow.Author.Tests.{leb-true, le-leb, ltb-true, lt-ltb}
 use Rattle.rules.specs.Words.{isIt}
 use Rattle.laws.proofs.Words.{by-test, and-true, and-intro, sum-le, sum-lt}
-use Rattle.theory.proofs.Cases.{by-le, clash, test-ext}
+use Rattle.theory.proofs.Cases.{by-le, test-ext}
 use Rattle.theory.proofs.Count.{cnt, cnt-gain, cnt-false, cnt-mono}
 use Rattle.theory.proofs.Lists.{_∈_, Distinct, sumOf}
-use Rattle.theory.proofs.Hours.{Hours, before-end}
+use Rattle.theory.proofs.Hours.{Hours}
 use Rattle.theory.proofs.Plans as Plans
 use Rattle.theory.proofs.Plans.{Plan, busy, did}
 use Rattle.theory.proofs.Rule.{Obeys}

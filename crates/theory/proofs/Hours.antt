@@ -1,12 +1,12 @@
 -- Opening hours, as far as the desk needs them: which slots are open, and the least moment by which k slots have been
 -- open since t. A desk that is always open is one case, with t + k. Assumes nothing.
-use mathlib.Core.Path.{_≡_, refl, sym, ap, _∙_}
-use mathlib.Core.Bool.{Bool, true, false}
+use mathlib.Core.Path.{_≡_, _∙_}
+use mathlib.Core.Bool.{Bool, true}
 use Prim.Native.Nat.{ℕ, _+_, _≤_, _<_}
 use native.Mathlib.Omega.{arith}
 use native.Mathlib.Nat.{le-antisymm}
 use Rattle.theory.proofs.Cases.{by-le}
-use Rattle.theory.proofs.Count.{cnt, cnt-ext, cnt-true, cnt-mono}
+use Rattle.theory.proofs.Count.{cnt, cnt-ext, cnt-true}
 
 pub record Hours (opens : ℕ → Bool) (openEnd : ℕ → ℕ → ℕ) : Type 0 where
   pub from : (t k : ℕ) → t ≤ openEnd t k

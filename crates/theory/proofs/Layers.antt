@@ -3,7 +3,7 @@
 -- for the others, by definition. Assumes nothing.
 use mathlib.Core.Path.{_≡_, refl, sym, ap, _∙_}
 use mathlib.Core.Bool.{Bool, true, false, not, _&&_, _||_}
-use mathlib.Core.Option.{Option, none, some}
+use mathlib.Core.Option.{none, some}
 use mathlib.Core.List.{List, [], _∷_}
 use mathlib.Core.List.{List·Memᴰ·head as here, List·Memᴰ·tail as there}
 use Prim.Native.Nat.{ℕ, _+_, _≤_, _<_, min}
@@ -13,9 +13,9 @@ use borrow.Author.Tests.{leb-true, le-leb, lt-ltb, ltb-true, not-true}
 use Rattle.laws.proofs.Words.{by-test, and-true}
 use Rattle.theory.proofs.Cases.{clash, or-rest}
 use Rattle.theory.proofs.Count.{cnt, cnt-ext, cnt-gain, cnt-or, firstN, cnt-firstN}
-use Rattle.theory.proofs.Lists.{_∈_, Distinct}
+use Rattle.theory.proofs.Lists.{_∈_}
 use Rattle.rules.specs.Words.{isIt}
-use Rattle.theory.proofs.Plans.{Plan, busy, did, works-some, some-works, other-works, none-works, some-busy, busy-none, works-busy}
+use Rattle.theory.proofs.Plans.{Plan, busy, did, some-works, other-works, none-works, some-busy, busy-none}
 
 module _ {E : Type 0} (num ready dur : E → ℕ) (opens : ℕ → Bool) where
   -- the slots that x could use where the plan w goes first

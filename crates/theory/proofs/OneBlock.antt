@@ -1,16 +1,14 @@
 -- One block of the block method: if the others are planned by the rule, then with the entry set aside in the slots that
 -- they leave free, the block is planned by the rule, and is over by its end. Assumes nothing.
-use mathlib.Core.Path.{_≡_, refl, sym, ap, _∙_}
-use mathlib.Core.Bool.{Bool, true, false, _&&_}
-use mathlib.Core.Option.{Option, none, some}
-use mathlib.Core.List.{List, [], _∷_, _++_}
+use mathlib.Core.Path.{_≡_, sym, ap, _∙_}
+use mathlib.Core.Bool.{Bool, true, _&&_}
+use mathlib.Core.Option.{some}
+use mathlib.Core.List.{List, _∷_}
 use mathlib.Core.List.{List·Memᴰ·head as here, List·Memᴰ·tail as there}
-use Prim.Native.Nat.{ℕ, _+_, _≤_, _<_}
-use native.Mathlib.Omega.{arith}
+use Prim.Native.Nat.{ℕ, _≤_, _<_}
 use lib.Dec.{leb, ltb}
-use lib.ListN.{length}
 use borrow.Author.Tests.{ltb-true}
-use Rattle.rules.specs.Words.{when, isIt, orElse}
+use Rattle.rules.specs.Words.{when, orElse}
 use Rattle.rules.specs.Entries.{Entry}
 use Rattle.rules.specs.Blocks.{Block, blockEnd, setAside, others, isSlotOf, inBlock}
 use Rattle.laws.proofs.Words.{by-test, and-true}

@@ -1,16 +1,16 @@
 -- Raised ready moments: of an entry linked behind others on its desk, the first moment at which it could be worked on if
 -- each of those were worked on at once. Whatever plan keeps the links works on nothing before its raised moment, so it
 -- is allowed also without links, by the raised moments. Assumes nothing.
-use mathlib.Core.Path.{_≡_, refl, sym, ap, _∙_}
-use mathlib.Core.Bool.{Bool, true, false}
-use mathlib.Core.Option.{Option, none, some}
+use mathlib.Core.Path.{_≡_}
+use mathlib.Core.Bool.{Bool, true}
+use mathlib.Core.Option.{some}
 use mathlib.Core.List.{List}
-use Prim.Native.Nat.{ℕ, zero, suc, _+_, _≤_, _<_}
+use Prim.Native.Nat.{ℕ, zero, suc, _≤_, _<_}
 use native.Mathlib.Omega.{arith}
 use Rattle.rules.specs.Words.{isIt}
 use Rattle.laws.proofs.Words.{by-test}
 use Rattle.theory.proofs.Cases.{by-le}
-use Rattle.theory.proofs.Count.{cnt, cnt-gain, cnt-false}
+use Rattle.theory.proofs.Count.{cnt-gain, cnt-false}
 use Rattle.theory.proofs.Lists.{_∈_}
 use Rattle.theory.proofs.Plans as Plans
 use Rattle.theory.proofs.Plans.{Plan, did}

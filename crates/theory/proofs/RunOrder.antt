@@ -1,17 +1,17 @@
 -- The runs of a plan in time: they rise and do not overlap, and each slot worked lies in a run of its piece. So one past
 -- the last slot of a piece's last run is its finish. Assumes nothing.
 use mathlib.Core.Path.{_≡_, refl, sym, ap, _∙_}
-use mathlib.Core.Bool.{Bool, true, false}
+use mathlib.Core.Bool.{Bool, true}
 use mathlib.Core.Option.{Option, none, some, Option·some-injective}
 use mathlib.Core.List.{List, [], _∷_, map}
 use mathlib.Core.List.{List·Memᴰ·head as here, List·Memᴰ·tail as there}
-use Prim.Native.Nat.{ℕ, zero, suc, _+_, _≤_, _<_}
+use Prim.Native.Nat.{ℕ, suc, _+_, _≤_, _<_}
 use native.Mathlib.Omega.{arith}
 use native.Mathlib.Nat.{le-antisymm}
 use lib.Dec.{eqb}
 use borrow.Author.Tests.{eqb-true, eq-eqb}
 use Rattle.rules.specs.Words.{keep, below, greatest}
-use Rattle.rules.specs.Runs.{Run, newRun, longerRun, closing, runsFrom}
+use Rattle.rules.specs.Runs.{Run, closing, runsFrom}
 use Rattle.laws.proofs.Words.{mem-map, mem-keep, keep-mem, greatest-mem, greatest-least}
 use Rattle.theory.proofs.Cases.{by-le, clash}
 use Rattle.theory.proofs.Lists.{_∈_, by-mem, map-mem}
@@ -19,7 +19,7 @@ use Rattle.theory.proofs.Plans as Plans
 use Rattle.theory.proofs.Plans.{Plan, did}
 use Rattle.theory.proofs.Finish.{Finish, finish-last, finish-over}
 use Rattle.theory.proofs.Turns.{turnsOf}
-use Rattle.theory.proofs.RunTruth.{Under, closing-all, runsIn, by-slot, TrueRun, runs-good}
+use Rattle.theory.proofs.RunTruth.{Under, runsIn, by-slot, TrueRun, runs-good}
 
 -- each run is over before the next begins
 abbrev pub Rising : List Run → Type 0

@@ -1,14 +1,14 @@
 -- The run lengths of a piece add to the slots worked on it: no slot of work is lost between runs, and none is counted
 -- twice. With the whole duration worked, they add to the duration. Assumes nothing.
-use mathlib.Core.Path.{_≡_, refl, sym, ap, _∙_}
-use mathlib.Core.Bool.{Bool, true, false, _&&_}
+use mathlib.Core.Path.{_≡_, ap}
+use mathlib.Core.Bool.{Bool, true, _&&_}
 use mathlib.Core.Option.{Option, none, some}
 use mathlib.Core.List.{List, [], _∷_, map}
 use Prim.Native.Nat.{ℕ, zero, suc, _+_}
 use native.Mathlib.Omega.{arith}
 use lib.Dec.{eqb}
 use Rattle.rules.specs.Words.{when, isIt, keep, row, below, sum}
-use Rattle.rules.specs.Runs.{Turn, Run, newRun, longerRun, closing, goesOn, runsFrom}
+use Rattle.rules.specs.Runs.{Turn, Run, newRun, longerRun, closing, runsFrom}
 use Rattle.laws.proofs.Words.{by-test, and-true, and-intro}
 use Rattle.theory.proofs.Cases.{test-ext}
 use Rattle.theory.proofs.Count.{bit, cnt, cnt-zero, cnt-suc, cnt-ext}

@@ -1,6 +1,6 @@
 -- Each run tells the truth: in each open slot of it the desk works on its piece, and it counts those slots. Shown slot by
 -- slot, by one principle that the other facts of runs use too. Assumes nothing.
-use mathlib.Core.Path.{_≡_, refl, sym, ap, _∙_}
+use mathlib.Core.Path.{_≡_, refl, ap}
 use mathlib.Core.Bool.{Bool, true, false}
 use mathlib.Core.Option.{Option, none, some}
 use mathlib.Core.List.{List, [], _∷_, map}

@@ -3,19 +3,19 @@
 -- Assumes nothing.
 use mathlib.Core.Path.{_≡_, refl, sym, ap, _∙_}
 use mathlib.Core.Bool.{Bool, true, false, not}
-use mathlib.Core.Option.{Option, none, some}
+use mathlib.Core.Option.{some}
 use mathlib.Core.List.{List, [], _∷_}
 use mathlib.Core.List.{List·Memᴰ·head as here, List·Memᴰ·tail as there}
-use Prim.Native.Nat.{ℕ, suc, _≤_, _<_}
+use Prim.Native.Nat.{ℕ, _<_}
 use native.Mathlib.Omega.{arith}
 use lib.Dec.{eqb}
 use lib.ListN.{length}
-use borrow.Author.Tests.{eqb-true, eqb-false, eq-eqb, ne-eqb, not-true}
+use borrow.Author.Tests.{eqb-false, eq-eqb, ne-eqb, not-true}
 use Rattle.rules.specs.Words.{when, keep, oneOf}
 use Rattle.rules.specs.Entries.{Entry}
 use Rattle.rules.specs.Blocks.{Block, costsLess, cheaper, cheapest, withoutFollower, setAside, others}
 use Rattle.laws.proofs.Words.{by-test, when-true, when-false, keep-mem, mem-keep, keep-length, oneOf-found}
-use Rattle.theory.proofs.Cases.{by-eq, clash}
+use Rattle.theory.proofs.Cases.{by-eq}
 use Rattle.theory.proofs.Lists.{_∈_, by-mem, Distinct, same-number}
 use Rattle.theory.proofs.EntryOrder.{number, urgent, entry-urgency}
 

@@ -1,11 +1,11 @@
 -- The work on a set of entries: the slots in which the number worked on is that of an entry of the list in the set X.
 -- It is the sum of what was done of each of them. Assumes nothing.
-use mathlib.Core.Path.{_≡_, refl, sym, ap, _∙_}
+use mathlib.Core.Path.{_≡_, refl, sym, _∙_}
 use mathlib.Core.Bool.{Bool, true, false, _&&_, _||_}
-use mathlib.Core.Option.{Option, none, some, Option·some-injective}
+use mathlib.Core.Option.{Option, Option·some-injective}
 use mathlib.Core.List.{List, [], _∷_}
 use mathlib.Core.List.{List·Memᴰ·head as here, List·Memᴰ·tail as there}
-use Prim.Native.Nat.{ℕ, _+_, _≤_, _<_}
+use Prim.Native.Nat.{ℕ, _≤_}
 use native.Mathlib.Omega.{arith}
 use Rattle.laws.proofs.Words.{and-true, and-intro, or-left, or-right}
 use Rattle.theory.proofs.Cases.{clash, by-or, test-ext}
