@@ -1,6 +1,6 @@
--- The plans that are allowed for a list of entries, whatever rule made them: work on entries of the list alone, in open
--- slots, not before an entry is ready, and never more of it than it lasts. With one entry taken out of the list and
--- of the plan, an allowed plan stays allowed. Assumes nothing.
+-- The plans that are allowed for a list of entries, whatever rule made them: work on entries of the list alone, in
+-- open slots, not before an entry is ready, and never more of it than it lasts. With one entry taken out of the list
+-- and of the plan, an allowed plan stays allowed. Assumes nothing.
 use mathlib.Core.Path.{_≡_, sym, ap, _∙_}
 use mathlib.Core.Bool.{Bool, true}
 use mathlib.Core.Option.{some}
@@ -28,7 +28,7 @@ module _ {E : Type 0} (num ready dur : E → ℕ) (opens : ℕ → Bool) where
     known = λ t i h. let r = a .known t i h in (r .0, to (r .0) (r .1), r .2);
     hours = a .hours;
     after = λ e m. a .after e (from e m);
-    most = λ e m. a .most e (from e m)
+    most = λ e m. a .most e (from e m);
   }
 
   module _ (x : E) (L : List E) (d : Distinct num (x ∷ L)) (q : Plan) (a : Allowed (x ∷ L) q) where
@@ -38,8 +38,8 @@ module _ {E : Type 0} (num ready dur : E → ℕ) (opens : ℕ → Bool) where
         by-test (isIt (q t) (num x))
         (λ k. absurd (Plans.none-some (without (num x) q t) i (Plans.without-hit (num x) q t k) h))
         (λ k.
-            let e : q t ≡ some i = sym (Plans.without-miss (num x) q t k) ∙ h in
-            (e, λ p. clash (Plans.some-works (q t) (num x) (e ∙ ap some p)) k))
+        let e : q t ≡ some i = sym (Plans.without-miss (num x) q t k) ∙ h in
+        (e, λ p. clash (Plans.some-works (q t) (num x) (e ∙ ap some p)) k))
 
     pub allowed-without : Allowed L (without (num x) q)
     allowed-without = record {
@@ -49,5 +49,5 @@ module _ {E : Type 0} (num ready dur : E → ℕ) (opens : ℕ → Bool) where
           by-mem (r .1) (λ p. absurd (k .1 (sym (r .2) ∙ ap num p))) (λ m. (r .0, m, r .2));
       hours = λ t i h. a .hours t i (left-over t i h .0);
       after = λ e m t h. a .after e (there m) t (left-over t (num e) h .0);
-      most = λ e m t. rw (Plans.did-without (num x) q (num e) (d .0 e m) t) (a .most e (there m) t)
+      most = λ e m t. rw (Plans.did-without (num x) q (num e) (d .0 e m) t) (a .most e (there m) t);
     }

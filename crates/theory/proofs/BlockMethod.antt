@@ -1,11 +1,12 @@
--- AGREEMENT: the block method works in every slot on the number that the rule works on. A set is cut into blocks, each
--- over before the entries of the next are ready; a block is planned by the rule if the others of it are; and these are
--- fewer. Assumes nothing.
+-- AGREEMENT: the block method works in every slot on the number that the rule works on. A set is cut into blocks,
+-- each over before the entries of the next are ready; a block is planned by the rule if the others of it are; and
+-- these are fewer. Assumes nothing.
 use mathlib.Core.Path.{_≡_, refl, sym, ap, _∙_, subst}
 use mathlib.Core.Logic.{⊎-elim}
 use mathlib.Core.Bool.{Bool, true, false, _&&_}
 use mathlib.Core.Option.{Option, none, some}
-use mathlib.Core.List.{List, [], _∷_, _++_, append-nil, append-assoc, List·Memᴰ·append-cases, List·Memᴰ·eq-of-singleton, Memᴰ·append-left, Memᴰ·append-right}
+use mathlib.Core.List.{List, [], _∷_, _++_, append-nil, append-assoc, List·Memᴰ·append-cases}
+use mathlib.Core.List.{List·Memᴰ·eq-of-singleton, Memᴰ·append-left, Memᴰ·append-right}
 use mathlib.Core.List.{List·Memᴰ·head as here, List·Memᴰ·tail as there}
 use Prim.Native.Nat.{ℕ, zero, suc, _+_, _≤_, _<_}
 use native.Mathlib.Omega.{arith}
@@ -14,11 +15,13 @@ use lib.ListN.{length, length-append}
 use borrow.Author.Tests.{leb-true, leb-false, ltb-true, ltb-false, eqb-true}
 use Rattle.rules.specs.Words.{when, orElse, sum}
 use Rattle.rules.specs.Entries.{Entry}
-use Rattle.rules.specs.Blocks.{Block, blockOf, gathered, readyFirst, placed, inOrder, blockEnd, gather, cutInOrder, cut, others, inBlock, inBlocks, setWorked}
+use Rattle.rules.specs.Blocks.{Block, blockOf, gathered, readyFirst, placed, inOrder, blockEnd, gather, cutInOrder}
+use Rattle.rules.specs.Blocks.{cut, others, inBlock, inBlocks, setWorked}
 use Rattle.laws.proofs.Words.{by-test, and-true, or-false}
 use Rattle.theory.proofs.Cases.{by-or}
 use Rattle.theory.proofs.Lists.{_∈_, by-mem, Distinct, sum-snoc, distinct-snoc}
-use Rattle.theory.proofs.Order.{Climbs, insert, sorted, mem-sorted, sorted-mem, sorted-distinct, sorted-length, sorted-climbs}
+use Rattle.theory.proofs.Order.{Climbs, insert, sorted, mem-sorted, sorted-mem, sorted-distinct}
+use Rattle.theory.proofs.Order.{sorted-length, sorted-climbs}
 use Rattle.theory.proofs.Hours.{Hours}
 use Rattle.theory.proofs.Plans.{Plan, busy}
 use Rattle.theory.proofs.Layers as Layers
@@ -53,8 +56,8 @@ ready-front x y h =
     by-or (ltb (x .ready) (y .ready)) (eqb (x .ready) (y .ready) && ltb (x .number) (y .number)) h
     (λ e. omega (arith, ltb-true (x .ready) (y .ready) e))
     (λ e.
-        let k = and-true (eqb (x .ready) (y .ready)) (ltb (x .number) (y .number)) e in
-        omega (arith, eqb-true (x .ready) (y .ready) (k .0)))
+    let k = and-true (eqb (x .ready) (y .ready)) (ltb (x .number) (y .number)) e in
+    omega (arith, eqb-true (x .ready) (y .ready) (k .0)))
 
 ready-behind : (x y : Entry) → waits y x ≡ false → y .ready ≤ x .ready
 unfolding readyFirst
@@ -76,7 +79,7 @@ module _ (opens : ℕ → Bool) where
     whole = omega arith;
     floor = λ m n. let p : m ≡ e = List·Memᴰ·eq-of-singleton n in rw p (omega arith);
     apart = (λ a m. elim m [ ], tt);
-    chain = chained-one number readyAt lasting opens e
+    chain = chained-one number readyAt lasting opens e;
   }
 
   sound-more : (endOf : ℕ → ℕ → ℕ) → Hours opens endOf → (B : Block) (e : Entry) → Sound opens B
@@ -94,7 +97,7 @@ module _ (opens : ℕ → Bool) where
     apart = distinct-snoc number (B .members) e (S .apart) new;
     chain =
         chained-more number readyAt lasting opens endOf H (B .from) (B .members) e (S .apart) (S .chain)
-        (omega (arith, ap (endOf (B .from)) (S .whole)))
+        (omega (arith, ap (endOf (B .from)) (S .whole)));
   }
 
 -- the blocks of a set that is gathered, where all sets shorter than N entries are planned by the rule
@@ -102,7 +105,7 @@ module _ (follows : ℕ → ℕ → Bool) (opens : ℕ → Bool) (endOf : ℕ �
     (planned : List Entry → Plan) (all : List Entry)
     (links : (e f : Entry) → e ∈ all → f ∈ all → follows (e .number) (f .number) ≡ true → urgent e f ≡ true)
     (shorter : (es : List Entry) → Distinct number es → length es < length all → ((e : Entry) → e ∈ es → e ∈ all)
-        → ObeysFor opens es (planned es)) where
+    → ObeysFor opens es (planned es)) where
   abbrev cutWorks : List Block → Plan
   cutWorks Bs t = inBlocks follows opens endOf (λ es. planned es t) Bs t
 
@@ -132,44 +135,44 @@ module _ (follows : ℕ → ℕ → Bool) (opens : ℕ → Bool) (endOf : ℕ �
   gather-obeys [] B S c d part new late short =
       rw append-nil
       (obeys-ext number readyAt lasting opens urgent (B .members) (blockWorks B) (cutWorks (B ∷ []))
-          (λ t. sym (orElse-rest (blockWorks B t)))
-          (one-obeys B S (λ m n. part m (Memᴰ·append-left [] n)) (omega arith)))
+      (λ t. sym (orElse-rest (blockWorks B t)))
+      (one-obeys B S (λ m n. part m (Memᴰ·append-left [] n)) (omega arith)))
   gather-obeys (e ∷ es) B S c d part new late short =
       by-test (leb (blockEnd endOf B) (e .ready))
       (λ h.
-          rw (h, when)
-          (beside number readyAt lasting opens urgent (B .members) (e ∷ es) new
-              (blockWorks B) (cutWorks (gather endOf (blockOf e) es))
-              (one-obeys B S (λ m n. part m (Memᴰ·append-left (e ∷ es) n)) (omega arith))
-              (gather-obeys es (blockOf e) (sound-one opens e) (c .1) (d .1)
-                  (λ m n. part m (Memᴰ·append-right (B .members) n))
-                  (λ m f n k q. d .0 f k (sym q ∙ ap number (List·Memᴰ·eq-of-singleton n)))
-                  (c .0) (omega arith))
-              (blockEnd endOf B)
-              (one-over B S (λ m n. part m (Memᴰ·append-left (e ∷ es) n)) (omega arith))
-              (λ f m.
-                  let start : blockEnd endOf B ≤ e .ready = leb-true (blockEnd endOf B) (e .ready) h in
-                  by-mem m (λ p. rw p start) (λ n. omega (arith, c .0 f n)))
-              (B .members ++ (e ∷ es))
-              (λ f m. Memᴰ·append-left (e ∷ es) m)
-              (λ f m. Memᴰ·append-right (B .members) m)
-              (λ f m. List·Memᴰ·append-cases (B .members) m)))
+      rw (h, when)
+      (beside number readyAt lasting opens urgent (B .members) (e ∷ es) new
+      (blockWorks B) (cutWorks (gather endOf (blockOf e) es))
+      (one-obeys B S (λ m n. part m (Memᴰ·append-left (e ∷ es) n)) (omega arith))
+      (gather-obeys es (blockOf e) (sound-one opens e) (c .1) (d .1)
+      (λ m n. part m (Memᴰ·append-right (B .members) n))
+      (λ m f n k q. d .0 f k (sym q ∙ ap number (List·Memᴰ·eq-of-singleton n)))
+      (c .0) (omega arith))
+      (blockEnd endOf B)
+      (one-over B S (λ m n. part m (Memᴰ·append-left (e ∷ es) n)) (omega arith))
+      (λ f m.
+      let start : blockEnd endOf B ≤ e .ready = leb-true (blockEnd endOf B) (e .ready) h in
+      by-mem m (λ p. rw p start) (λ n. omega (arith, c .0 f n)))
+      (B .members ++ (e ∷ es))
+      (λ f m. Memᴰ·append-left (e ∷ es) m)
+      (λ f m. Memᴰ·append-right (B .members) m)
+      (λ f m. List·Memᴰ·append-cases (B .members) m)))
       (λ h.
-          rw (h, when)
-          (subst (λ (l : List Entry). ObeysFor opens l (cutWorks (gather endOf (gathered B e) es)))
-              (append-assoc (B .members) (e ∷ []) es)
-              (gather-obeys es (gathered B e)
-                  (sound-more opens endOf H B e S (leb-false (blockEnd endOf B) (e .ready) h) (late e (here refl))
-                      (λ m n. new m e n (here refl)))
-                  (c .1) (d .1)
-                  (λ m n. part m (subst (λ (l : List Entry). m ∈ l) (append-assoc (B .members) (e ∷ []) es) n))
-                  (λ m f n k q.
-                      ⊎-elim
-                      (λ i. new m f i (there k) q)
-                      (λ i. d .0 f k (sym q ∙ ap number (List·Memᴰ·eq-of-singleton i)))
-                      (List·Memᴰ·append-cases (B .members) n))
-                  (λ f n. late f (there n))
-                  (omega (arith, length-append (B .members) (e ∷ []))))))
+      rw (h, when)
+      (subst (λ (l : List Entry). ObeysFor opens l (cutWorks (gather endOf (gathered B e) es)))
+      (append-assoc (B .members) (e ∷ []) es)
+      (gather-obeys es (gathered B e)
+      (sound-more opens endOf H B e S (leb-false (blockEnd endOf B) (e .ready) h) (late e (here refl))
+      (λ m n. new m e n (here refl)))
+      (c .1) (d .1)
+      (λ m n. part m (subst (λ (l : List Entry). m ∈ l) (append-assoc (B .members) (e ∷ []) es) n))
+      (λ m f n k q.
+      ⊎-elim
+      (λ i. new m f i (there k) q)
+      (λ i. d .0 f k (sym q ∙ ap number (List·Memᴰ·eq-of-singleton i)))
+      (List·Memᴰ·append-cases (B .members) n))
+      (λ f n. late f (there n))
+      (omega (arith, length-append (B .members) (e ∷ []))))))
 
   -- a set that is cut
   ordered-obeys : (es : List Entry) → Climbs readyAt es → Distinct number es → ((e : Entry) → e ∈ es → e ∈ all)
@@ -186,11 +189,11 @@ module _ (follows : ℕ → ℕ → Bool) (opens : ℕ → Bool) (endOf : ℕ �
   cut-obeys d =
       rw (in-order all)
       (obeys-members number readyAt lasting opens urgent (sorted waits all) all
-          (mem-sorted waits all) (sorted-mem waits all)
-          (cutWorks (cutInOrder endOf (sorted waits all)))
-          (ordered-obeys (sorted waits all) (sorted-climbs waits readyAt ready-front ready-behind all)
-              (sorted-distinct waits number all d) (mem-sorted waits all)
-              (omega (arith, sorted-length waits all))))
+      (mem-sorted waits all) (sorted-mem waits all)
+      (cutWorks (cutInOrder endOf (sorted waits all)))
+      (ordered-obeys (sorted waits all) (sorted-climbs waits readyAt ready-front ready-behind all)
+      (sorted-distinct waits number all d) (mem-sorted waits all)
+      (omega (arith, sorted-length waits all))))
 
 -- THE BLOCK METHOD OBEYS THE RULE, with enough cuttings
 module _ (follows : ℕ → ℕ → Bool) (opens : ℕ → Bool) (endOf : ℕ → ℕ → ℕ) (H : Hours opens endOf) where

@@ -1,5 +1,5 @@
--- Going by cases: a number is at most another or above it, the same or not; and a few facts of tests beside those of the
--- shared words. Assumes nothing.
+-- Going by cases: a number is at most another or above it, the same or not; and a few facts of tests beside those of
+-- the shared words. Assumes nothing.
 use mathlib.Core.Path.{_≡_, refl, sym, _∙_}
 use mathlib.Core.Bool.{Bool, true, false, _||_}
 use Prim.Native.Nat.{ℕ, _≤_, _<_}

@@ -56,11 +56,11 @@ cnt-gain f g s zero h imp = let z : s ≡ 0 = omega arith in rw z (omega arith)
 cnt-gain f g s (suc t) h imp =
     by-le s t
     (λ k.
-        omega
-        ( arith
-        , cnt-gain f g s t k (λ n a b. imp n a (omega arith))
-        , bit-mono (f t) (g t) (imp t k (omega arith))
-        ))
+    omega (
+      arith,
+      cnt-gain f g s t k (λ n a b. imp n a (omega arith)),
+      bit-mono (f t) (g t) (imp t k (omega arith)),
+    ))
     (λ k. let z : s ≡ suc t = omega arith in rw z (omega arith))
 
 pub cnt-imp : (f g : ℕ → Bool) (t : ℕ) → ((k : ℕ) → k < t → f k ≡ true → g k ≡ true) → cnt f t ≤ cnt g t
@@ -87,8 +87,12 @@ cnt-false f (suc t) none· =
 
 pub cnt-mono : (f : ℕ → Bool) (s t : ℕ) → s ≤ t → cnt f s ≤ cnt f t
 cnt-mono f s t h =
-    omega (arith, cnt-gain (λ k. false) f s t h (λ k a b e. clash e refl)
-    , cnt-false (λ k. false) s (λ k a. refl), cnt-false (λ k. false) t (λ k a. refl))
+    omega (
+      arith,
+      cnt-gain (λ k. false) f s t h (λ k a b e. clash e refl),
+      cnt-false (λ k. false) s (λ k a. refl),
+      cnt-false (λ k. false) t (λ k a. refl),
+    )
 
 pub cnt-lipschitz : (f : ℕ → Bool) (s t : ℕ) → s ≤ t → cnt f t ≤ cnt f s + (t - s)
 cnt-lipschitz f s t h =
@@ -109,10 +113,10 @@ pub cnt-or : (f g : ℕ → Bool) (t : ℕ) → ((k : ℕ) → k < t → f k ≡
 unfolding cnt
 cnt-or f g zero apart = refl
 cnt-or f g (suc t) apart =
-    omega
-    ( arith
-    , cnt-or f g t (λ k h. apart k (omega arith))
-    , bit-or (f t) (g t) (apart t (omega arith))
+    omega (
+      arith,
+      cnt-or f g t (λ k h. apart k (omega arith)),
+      bit-or (f t) (g t) (apart t (omega arith)),
     )
 
 -- the first d slots that pass u, and how many of them lie before t
@@ -126,8 +130,8 @@ cnt-firstN d u (suc t) =
     let ih : cnt (firstN d u) t ≡ min (cnt u t) d = cnt-firstN d u t in
     by-test (u t)
     (λ e. by-test (ltb (cnt u t) d)
-        (λ h. rw (e, h) (omega (arith, ltb-true)))
-        (λ h. rw (e, h) (omega (arith, ltb-false))))
+    (λ h. rw (e, h) (omega (arith, ltb-true)))
+    (λ h. rw (e, h) (omega (arith, ltb-false))))
     (λ e. rw e (omega arith))
 
 -- a test that is "u, and fewer than d so far" is the test of the first d
@@ -161,6 +165,6 @@ cnt-find f s (suc t) h =
     by-test (f t)
     (λ e. by-le s t (λ k. (t, k, omega arith, e)) (λ k. absurd (omega (arith, cnt-mono f (suc t) s k))))
     (λ e.
-        let h′ : cnt f s < cnt f t = omega (arith, cnt-miss f t e) in
-        let r = cnt-find f s t h′ in
-        (r .0, r .1, omega (arith, r .2), r .3))
+    let h′ : cnt f s < cnt f t = omega (arith, cnt-miss f t e) in
+    let r = cnt-find f s t h′ in
+    (r .0, r .1, omega (arith, r .2), r .3))

@@ -1,6 +1,6 @@
 -- Every entry is finished at last: once all are ready and as many slots have been open as their durations together,
--- each entry has its whole duration. Where the desk is always open that is the latest ready moment plus the durations.
--- Assumes nothing.
+-- each entry has its whole duration. Where the desk is always open that is the latest ready moment plus the
+-- durations. Assumes nothing.
 use mathlib.Core.Path.{_≡_, refl, ap, _∙_}
 use mathlib.Core.Bool.{Bool, true}
 use mathlib.Core.List.{List, [], _∷_}
@@ -42,18 +42,18 @@ module _ {E : Type 0} (num ready dur : E → ℕ) (opens : ℕ → Bool) where
   layers-done (x ∷ L) d R t ripe enough e m =
       by-mem m
       (λ p.
-          rw p
-          (omega
-          ( arith
-          , Layers.did-layer-self num ready dur opens x (layers L)
-            (Layers.layers-fresh num ready dur opens L (num x) (d .0)) t
-          , chances x (layers L) R t (ripe x (here refl))
-          , busy-most L t
-          , sum-cons dur x L
-          )))
+      rw p
+      (omega (
+        arith,
+        Layers.did-layer-self num ready dur opens x (layers L)
+            (Layers.layers-fresh num ready dur opens L (num x) (d .0)) t,
+        chances x (layers L) R t (ripe x (here refl)),
+        busy-most L t,
+        sum-cons dur x L,
+      )))
       (λ n.
-          Layers.did-layer-other num ready dur opens x (layers L) (num e) (d .0 e n) t
-          ∙ layers-done L (d .1) R t (λ f k. ripe f (there k)) (omega (arith, sum-cons dur x L)) e n)
+      Layers.did-layer-other num ready dur opens x (layers L) (num e) (d .0 e n) t
+      ∙ layers-done L (d .1) R t (λ f k. ripe f (there k)) (omega (arith, sum-cons dur x L)) e n)
 
   module _ (sooner : E → E → Bool) (U : Urgency num sooner) (L : List E) (d : Distinct num L) (w : Plan)
       (rule : Obeys num ready dur opens sooner L w) where
@@ -64,9 +64,9 @@ module _ {E : Type 0} (num ready dur : E → ℕ) (opens : ℕ → Bool) where
         cnt-ext (λ s. isIt (w s) (num e)) (λ s. isIt (layers (sorted sooner L) s) (num e)) t
         (λ k h. ap (λ o. isIt o (num e)) (obeys-layers num ready dur opens sooner U L d w rule k))
         ∙ layers-done (sorted sooner L) (sorted-distinct sooner num L d) R t
-          (λ f n. ripe f (mem-sorted sooner L f n))
-          (omega (arith, sorted-sum sooner dur L))
-          e (sorted-mem sooner L e m)
+        (λ f n. ripe f (mem-sorted sooner L f n))
+        (omega (arith, sorted-sum sooner dur L))
+        e (sorted-mem sooner L e m)
 
     pub obeys-done-always : ((s : ℕ) → opens s ≡ true) → (R t : ℕ) → ((e : E) → e ∈ L → ready e ≤ R)
         → R + sumOf dur L ≤ t → (e : E) → e ∈ L → did w (num e) t ≡ dur e

@@ -1,5 +1,5 @@
--- The moment at which a number has had its d slots. It can be counted: it is the number of moments at which the number
--- is unfinished; and it is one past the last slot in which it is worked on. Assumes nothing.
+-- The moment at which a number has had its d slots. It can be counted: it is the number of moments at which the
+-- number is unfinished; and it is one past the last slot in which it is worked on. Assumes nothing.
 use mathlib.Core.Path.{_≡_, refl}
 use mathlib.Core.Bool.{Bool, true, false}
 use mathlib.Core.Option.{some}
@@ -37,16 +37,16 @@ module _ (u : ℕ → Bool) (down : (s t : ℕ) → s ≤ t → u t ≡ true →
   at-count h e =
       by-test (u (cnt u h))
       (λ k.
-          by-le h (cnt u h)
-          (λ z. clash (down h (cnt u h) z k) e)
-          (λ z.
-              absurd
-              (omega
-              ( arith
-              , cnt-mono u (suc (cnt u h)) h z
-              , cnt-ext u (λ s. true) (suc (cnt u h)) (λ s a. down s (cnt u h) (omega arith) k)
-              , cnt-true (suc (cnt u h))
-              ))))
+      by-le h (cnt u h)
+      (λ z. clash (down h (cnt u h) z k) e)
+      (λ z.
+      absurd
+      (omega (
+        arith,
+        cnt-mono u (suc (cnt u h)) h z,
+        cnt-ext u (λ s. true) (suc (cnt u h)) (λ s a. down s (cnt u h) (omega arith) k),
+        cnt-true (suc (cnt u h)),
+      ))))
       (λ k. k)
 
 module _ (w : Plan) (i d : ℕ) where
@@ -56,11 +56,12 @@ module _ (w : Plan) (i d : ℕ) where
     done = ltb-false (did w i (cnt u h)) d (at-count u down h (le-ltb (did w i h) d k));
     first = λ t z.
         by-le (cnt u h) t (λ y. y)
-        (λ y. clash (below-count u down t h y) (le-ltb (did w i t) d z))
+        (λ y. clash (below-count u down t h y) (le-ltb (did w i t) d z));
   }
     where
       u : ℕ → Bool
       u = λ t. ltb (did w i t) d
+
       down : (s t : ℕ) → s ≤ t → u t ≡ true → u s ≡ true
       down s t a b =
           lt-ltb (did w i s) d (omega (arith, ltb-true (did w i t) d b, cnt-mono (λ k. isIt (w k) i) s t a))
@@ -75,15 +76,15 @@ module _ (w : Plan) (i d : ℕ) where
       by-test (isIt (w k) i)
       (λ e. (k, refl, Plans.works-some (w k) i e))
       (λ e.
-          absurd
-          (omega (arith, f .first k (omega (arith, f .done, cnt-miss (λ s. isIt (w s) i) k e)))))
+      absurd
+      (omega (arith, f .first k (omega (arith, f .done, cnt-miss (λ s. isIt (w s) i) k e)))))
 
   pub finish-over : (c : ℕ) → Finish w i d c → ((t : ℕ) → did w i t ≤ d) → (t : ℕ) → c ≤ t → w t ≡ some i → ⊥
   finish-over c f most t h e =
-      omega
-      ( arith
-      , f .done
-      , most (suc t)
-      , cnt-hit (λ s. isIt (w s) i) t (Plans.some-works (w t) i e)
-      , cnt-mono (λ s. isIt (w s) i) c t h
+      omega (
+        arith,
+        f .done,
+        most (suc t),
+        cnt-hit (λ s. isIt (w s) i) t (Plans.some-works (w t) i e),
+        cnt-mono (λ s. isIt (w s) i) c t h,
       )

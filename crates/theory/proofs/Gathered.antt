@@ -1,6 +1,7 @@
--- A gathered block: from its first ready moment, and each next entry ready before the ones gathered so far could be done.
--- The rule's plan of such entries works in every open slot of the block and in no other: were it idle in one, then all
--- that is ready is done; so one after the other every entry is ready and done, and the block is over. Assumes nothing.
+-- A gathered block: from its first ready moment, and each next entry ready before the ones gathered so far could be
+-- done. The rule's plan of such entries works in every open slot of the block and in no other: were it idle in one,
+-- then all that is ready is done; so one after the other every entry is ready and done, and the block is over.
+-- Assumes nothing.
 use mathlib.Core.Path.{_≡_, refl, sym, ap, _∙_}
 use mathlib.Core.Logic.{⊎-elim}
 use mathlib.Core.Bool.{Bool, true, false, _&&_}
@@ -43,11 +44,11 @@ module _ {E : Type 0} (num ready dur : E → ℕ) (opens : ℕ → Bool) where
   work-within : (K : List E) (w : Plan) (from t : ℕ) → from ≤ t → Within w from K
       → cnt (λ s. onto K (w s)) t + cnt opens from ≤ cnt opens t
   work-within K w from t h within =
-      omega
-      ( arith
-      , cnt-gain (λ s. onto K (w s)) opens from t h (λ s l k e. at s e .0)
-      , cnt-false (λ s. onto K (w s)) from
-        (λ s l. by-test (onto K (w s)) (λ e. absurd (omega (arith, at s e .1))) (λ e. e))
+      omega (
+        arith,
+        cnt-gain (λ s. onto K (w s)) opens from t h (λ s l k e. at s e .0),
+        cnt-false (λ s. onto K (w s)) from
+            (λ s l. by-test (onto K (w s)) (λ e. absurd (omega (arith, at s e .1))) (λ e. e)),
       )
     where
       at : (s : ℕ) → onto K (w s) ≡ true → (opens s ≡ true) × (from ≤ s)
@@ -61,12 +62,12 @@ module _ {E : Type 0} (num ready dur : E → ℕ) (opens : ℕ → Bool) where
         → ((m : E) → m ∈ K → dur m ≤ did w (num m) t) → openEnd from (sumOf dur K) ≤ t
     fulfilled K d w from t h within done =
         H .least from (sumOf dur K) t h
-        (omega
-        ( arith
-        , work-within K w from t h within
-        , work-sum num (λ m. true) K d w t
-        , sum-le dur (λ m. part true (did w (num m) t)) K
-          (λ m n. omega (arith, done m n, part-true true (did w (num m) t) refl))
+        (omega (
+          arith,
+          work-within K w from t h within,
+          work-sum num (λ m. true) K d w t,
+          sum-le dur (λ m. part true (did w (num m) t)) K
+              (λ m n. omega (arith, done m n, part-true true (did w (num m) t) refl)),
         ))
 
     pub chained-more : (from : ℕ) (K : List E) (e : E) → Distinct num K → Chained from K
@@ -75,13 +76,13 @@ module _ {E : Type 0} (num ready dur : E → ℕ) (opens : ℕ → Bool) where
         ⊎-elim
         (λ k. all m k)
         (λ k.
-            let p : m ≡ e = List·Memᴰ·eq-of-singleton k in
-            rw p
-            (omega
-            ( arith
-            , fulfilled K d w from t h (λ f i. within f (Memᴰ·append-left (e ∷ []) i))
-              (λ f i. done f (Memᴰ·append-left (e ∷ []) i) (all f i))
-            )))
+        let p : m ≡ e = List·Memᴰ·eq-of-singleton k in
+        rw p
+        (omega (
+          arith,
+          fulfilled K d w from t h (λ f i. within f (Memᴰ·append-left (e ∷ []) i))
+              (λ f i. done f (Memᴰ·append-left (e ∷ []) i) (all f i)),
+        )))
         (List·Memᴰ·append-cases K n)
       where
         all : (f : E) → f ∈ K → ready f ≤ t
@@ -111,6 +112,7 @@ module _ {E : Type 0} (num ready dur : E → ℕ) (opens : ℕ → Bool) where
         where
           done : busy (w t) ≡ false → (m : E) → m ∈ K → ready m ≤ t → dur m ≤ did w (num m) t
           done e = obeys-idle num ready dur opens sooner K w rule t o (Plans.busy-none (w t) e)
+
           all : busy (w t) ≡ false → (m : E) → m ∈ K → ready m ≤ t
           all e = chain w t h within (done e)
 
@@ -126,44 +128,44 @@ module _ {E : Type 0} (num ready dur : E → ℕ) (opens : ℕ → Bool) where
       all-done m n =
           by-le (dur m) (did w (num m) end) (λ z. z)
           (λ z.
-              absurd
-              (omega
-              ( arith
-              , cnt-gain opens (λ s. onto K (w s)) from end (H .from from (sumOf dur K))
-                (λ s h k o. busy-on s (never-idle s h k o))
-              , H .count from (sumOf dur K)
-              , work-sum num (λ m. true) K d w end
-              , sum-lt (λ f. part true (did w (num f) end)) dur K
+          absurd
+          (omega (
+            arith,
+            cnt-gain opens (λ s. onto K (w s)) from end (H .from from (sumOf dur K))
+                (λ s h k o. busy-on s (never-idle s h k o)),
+            H .count from (sumOf dur K),
+            work-sum num (λ m. true) K d w end,
+            sum-lt (λ f. part true (did w (num f) end)) dur K
                 (λ f i. omega (arith, allowed .most f i end, part-true true (did w (num f) end) refl))
-                m n (omega (arith, part-true true (did w (num m) end) refl))
-              )))
+                m n (omega (arith, part-true true (did w (num m) end) refl)),
+          )))
 
       pub block-busy : (t : ℕ) → busy (w t) ≡ (leb from t && ltb t end && opens t)
       block-busy t =
           test-ext (busy (w t)) (leb from t && ltb t end && opens t)
           (λ e.
-              let b = Plans.busy-some (w t) e in
-              let r = allowed .known t (b .0) (b .1) in
-              let p : w t ≡ some (num (r .0)) = b .1 ∙ ap some (sym (r .2)) in
-              and-intro (leb from t && ltb t end) (opens t)
-              (and-intro (leb from t) (ltb t end)
-                  (le-leb from t (within (r .0) (r .1) t p .1))
-                  (lt-ltb t end (inside (r .0) (r .1) t p)))
-              (within (r .0) (r .1) t p .0))
+          let b = Plans.busy-some (w t) e in
+          let r = allowed .known t (b .0) (b .1) in
+          let p : w t ≡ some (num (r .0)) = b .1 ∙ ap some (sym (r .2)) in
+          and-intro (leb from t && ltb t end) (opens t)
+          (and-intro (leb from t) (ltb t end)
+          (le-leb from t (within (r .0) (r .1) t p .1))
+          (lt-ltb t end (inside (r .0) (r .1) t p)))
+          (within (r .0) (r .1) t p .0))
           (λ e.
-              let a = and-true (leb from t && ltb t end) (opens t) e in
-              let b = and-true (leb from t) (ltb t end) (a .0) in
-              never-idle t (leb-true from t (b .0)) (ltb-true t end (b .1)) (a .1))
+          let a = and-true (leb from t && ltb t end) (opens t) e in
+          let b = and-true (leb from t) (ltb t end) (a .0) in
+          never-idle t (leb-true from t (b .0)) (ltb-true t end (b .1)) (a .1))
         where
           inside : (m : E) → m ∈ K → (t : ℕ) → w t ≡ some (num m) → t < end
           inside m n t p =
               by-le end t
               (λ z.
-                  absurd
-                  (omega
-                  ( arith
-                  , obeys-candidate num ready dur opens sooner K d w rule t m n p .left
-                  , all-done m n
-                  , cnt-mono (λ s. isIt (w s) (num m)) end t z
-                  )))
+              absurd
+              (omega (
+                arith,
+                obeys-candidate num ready dur opens sooner K d w rule t m n p .left,
+                all-done m n,
+                cnt-mono (λ s. isIt (w s) (num m)) end t z,
+              )))
               (λ z. z)

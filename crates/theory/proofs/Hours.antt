@@ -1,5 +1,5 @@
--- Opening hours, as far as the desk needs them: which slots are open, and the least moment by which k slots have been
--- open since t. A desk that is always open is one case, with t + k. Assumes nothing.
+-- Opening hours, as far as the desk needs them: which slots are open, and the least moment by which k slots have
+-- been open since t. A desk that is always open is one case, with t + k. Assumes nothing.
 use mathlib.Core.Path.{_≡_, _∙_}
 use mathlib.Core.Bool.{Bool, true}
 use Prim.Native.Nat.{ℕ, _+_, _≤_, _<_}
@@ -21,7 +21,7 @@ pub hours-always : (opens : ℕ → Bool) → ((s : ℕ) → opens s ≡ true) �
 hours-always opens always = record {
   from = λ t k. omega arith;
   count = λ t k. omega (arith, cnt-always opens always (t + k), cnt-always opens always t);
-  least = λ t k u h e. omega (arith, cnt-always opens always t, cnt-always opens always u)
+  least = λ t k u h e. omega (arith, cnt-always opens always t, cnt-always opens always u);
 }
 
 module _ (opens : ℕ → Bool) (openEnd : ℕ → ℕ → ℕ) (H : Hours opens openEnd) where

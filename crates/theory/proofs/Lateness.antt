@@ -1,6 +1,7 @@
--- Optimality: no allowed plan has a smaller worst lateness. If the rule's plan finishes e at c, then at the moment before
--- c not all work on the entries at least as urgent as e is done; by dominance no other plan has done it all either, so
--- it finishes one of them at c or later, and that one's latest moment is no later than e's. Assumes nothing.
+-- Optimality: no allowed plan has a smaller worst lateness. If the rule's plan finishes e at c, then at the moment
+-- before c not all work on the entries at least as urgent as e is done; by dominance no other plan has done it all
+-- either, so it finishes one of them at c or later, and that one's latest moment is no later than e's. Assumes
+-- nothing.
 use mathlib.Core.Path.{_≡_, refl}
 use mathlib.Core.Logic.{_⊎_, inl, inr}
 use mathlib.Core.Bool.{Bool, true, false, _&&_}
@@ -45,8 +46,8 @@ unfolding worstOf
 worst-mem g (x ∷ L) e m =
     le-leZ (g e) (greatestZ (g x) (map g L))
     (by-mem m
-        (λ p. rw p (greatestZ-start (g x) (map g L)))
-        (λ n. greatestZ-mem (g x) (map g L) (g e) (mem-map g L e n)))
+    (λ p. rw p (greatestZ-start (g x) (map g L)))
+    (λ n. greatestZ-mem (g x) (map g L) (g e) (mem-map g L e n)))
 
 worst-most : {E : Type 0} (g h : E → ℤ) (L : List E)
     → ((e : E) → e ∈ L → leZ (g e) (worstOf (map h L)) ≡ true) → leZ (worstOf (map g L)) (worstOf (map h L)) ≡ true
@@ -55,8 +56,8 @@ worst-most g h [] under = refl
 worst-most g h (x ∷ L) under =
     le-leZ (greatestZ (g x) (map g L)) b
     (greatestZ-least (g x) b (map g L)
-        (leZ-le (g x) b (under x (here refl)))
-        (λ y m. let r = map-mem g L y m in rw (r .2) (leZ-le (g (r .0)) b (under (r .0) (there (r .1))))))
+    (leZ-le (g x) b (under x (here refl)))
+    (λ y m. let r = map-mem g L y m in rw (r .2) (leZ-le (g (r .0)) b (under (r .0) (there (r .1))))))
   where
     b : ℤ
     b = greatestZ (h x) (map h L)
@@ -71,25 +72,26 @@ module _ {E : Type 0} (num ready dur : E → ℕ) (opens : ℕ → Bool) (sooner
     where
       waiting : E → Bool
       waiting f = X f && ltb (did q (num f) t) (dur f)
+
       go : ((f : E) × (f ∈ L) × (waiting f ≡ true)) ⊎ ((f : E) → f ∈ L → waiting f ≡ false)
           → (f : E) × (f ∈ L) × (X f ≡ true) × (did q (num f) t < dur f)
       go (inl (f, n, k)) =
           let b = and-true (X f) (ltb (did q (num f) t) (dur f)) k in
           (f, n, b .0, ltb-true (did q (num f) t) (dur f) (b .1))
-      go (inr nobody) = absurd (omega
-        ( arith
-        , work-sum num X L d w t
-        , work-sum num X L d q t
-        , obeys-dominates num ready dur opens sooner U L d w rule X up q a t
-        , sum-lt (λ f. part (X f) (did w (num f) t)) (λ f. part (X f) (dur f)) L
-          (λ f n. part-mono (X f) (did w (num f) t) (dur f)
-              (λ z. obeys-allowed num ready dur opens sooner L d w rule .most f n t))
-          e m
-          (omega (arith, part-true (X e) (did w (num e) t) h, part-true (X e) (dur e) h))
-        , sum-le (λ f. part (X f) (dur f)) (λ f. part (X f) (did q (num f) t)) L
-          (λ f n. part-mono (X f) (dur f) (did q (num f) t)
-              (λ z. ltb-false (did q (num f) t) (dur f) (rw z at (nobody f n))))
-        ))
+      go (inr nobody) = absurd (omega (
+        arith,
+        work-sum num X L d w t,
+        work-sum num X L d q t,
+        obeys-dominates num ready dur opens sooner U L d w rule X up q a t,
+        sum-lt (λ f. part (X f) (did w (num f) t)) (λ f. part (X f) (dur f)) L
+            (λ f n. part-mono (X f) (did w (num f) t) (dur f)
+            (λ z. obeys-allowed num ready dur opens sooner L d w rule .most f n t))
+            e m
+            (omega (arith, part-true (X e) (did w (num e) t) h, part-true (X e) (dur e) h)),
+        sum-le (λ f. part (X f) (dur f)) (λ f. part (X f) (did q (num f) t)) L
+            (λ f n. part-mono (X f) (dur f) (did q (num f) t)
+            (λ z. ltb-false (did q (num f) t) (dur f) (rw z at (nobody f n)))),
+      ))
 
   -- e's finish is no later than that of some entry of X in the other plan
   pub as-late : ((e : E) → e ∈ L → 1 ≤ dur e) → (X : E → Bool) → UpClosed sooner L X
@@ -99,23 +101,23 @@ module _ {E : Type 0} (num ready dur : E → ℕ) (opens : ℕ → Bool) (sooner
   as-late some-work X up finish done e m h c fin =
       let l = finish-last w (num e) (dur e) c fin (some-work e m) in
       let left : did w (num e) (l .0) < dur e =
-          by-le (dur e) (did w (num e) (l .0))
-          (λ z. absurd (omega (arith, fin .first (l .0) z, l .1)))
-          (λ z. z) in
-      let b = behind X up (l .0) e m h left in
-      ( b .0
-      , b .1
-      , b .2
-      , by-le c (finish (b .0)) (λ z. z)
-        (λ z.
+      by-le (dur e) (did w (num e) (l .0))
+      (λ z. absurd (omega (arith, fin .first (l .0) z, l .1)))
+      (λ z. z) in
+      let b = behind X up (l .0) e m h left in (
+        b .0,
+        b .1,
+        b .2,
+        by-le c (finish (b .0)) (λ z. z)
+            (λ z.
             absurd
-            (omega
-            ( arith
-            , l .1
-            , b .3
-            , done (b .0) (b .1) .done
-            , cnt-mono (λ s. isIt (q s) (num (b .0))) (finish (b .0)) (l .0) (omega (arith, l .1))
-            )))
+            (omega (
+              arith,
+              l .1,
+              b .3,
+              done (b .0) (b .1) .done,
+              cnt-mono (λ s. isIt (q s) (num (b .0))) (finish (b .0)) (l .0) (omega (arith, l .1)),
+            ))),
       )
 
   -- by every moment t, no plan has worked more on the entries with latest moment at most x
@@ -127,7 +129,8 @@ module _ {E : Type 0} (num ready dur : E → ℕ) (opens : ℕ → Bool) (sooner
       (λ e f m n h k. leZ-trans (latest e) (latest f) x (sooner-latest e f m n h) k) q a t
 
   -- OPTIMALITY: a bound on the lateness of every entry in another plan is one in the rule's plan
-  module _ (latest : E → ℤ) (sooner-latest : (e f : E) → e ∈ L → f ∈ L → sooner e f ≡ true → leZ (latest e) (latest f) ≡ true)
+  module _ (latest : E → ℤ)
+      (sooner-latest : (e f : E) → e ∈ L → f ∈ L → sooner e f ≡ true → leZ (latest e) (latest f) ≡ true)
       (some-work : (e : E) → e ∈ L → 1 ≤ dur e)
       (finish other : E → ℕ)
       (finishes : (e : E) → e ∈ L → Finish w (num e) (dur e) (finish e))
@@ -136,8 +139,8 @@ module _ {E : Type 0} (num ready dur : E → ℕ) (opens : ℕ → Bool) (sooner
         → (f : E) × (f ∈ L) × (leZ (pos (finish e) -ℤ latest e) (pos (other f) -ℤ latest f) ≡ true)
     later-one e m =
         let r = as-late some-work (λ f. leZ (latest f) (latest e))
-            (λ x y i j h k. leZ-trans (latest x) (latest y) (latest e) (sooner-latest x y i j h) k)
-            other others e m (leZ-refl (latest e)) (finish e) (finishes e m) in
+        (λ x y i j h k. leZ-trans (latest x) (latest y) (latest e) (sooner-latest x y i j h) k)
+        other others e m (leZ-refl (latest e)) (finish e) (finishes e m) in
         (r .0, r .1, late-mono (finish e) (other (r .0)) (latest e) (latest (r .0)) (r .3) (r .2))
 
     pub no-smaller : (bound : ℤ) → ((f : E) → f ∈ L → leZ (pos (other f) -ℤ latest f) bound ≡ true)
@@ -153,4 +156,4 @@ module _ {E : Type 0} (num ready dur : E → ℕ) (opens : ℕ → Bool) (sooner
     worst-least =
         worst-most (λ e. pos (finish e) -ℤ latest e) (λ e. pos (other e) -ℤ latest e) L
         (no-smaller (worstOf (map (λ e. pos (other e) -ℤ latest e) L))
-            (worst-mem (λ e. pos (other e) -ℤ latest e) L))
+        (worst-mem (λ e. pos (other e) -ℤ latest e) L))

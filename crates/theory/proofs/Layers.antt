@@ -1,6 +1,6 @@
--- The plan by layers: the entries lie in a list, LEAST urgent first, and each entry takes of the slots that the plan of
--- the entries behind it leaves free the first ones it can use. So to take the least urgent entry away changes nothing
--- for the others, by definition. Assumes nothing.
+-- The plan by layers: the entries lie in a list, LEAST urgent first, and each entry takes of the slots that the plan
+-- of the entries behind it leaves free the first ones it can use. So to take the least urgent entry away changes
+-- nothing for the others, by definition. Assumes nothing.
 use mathlib.Core.Path.{_≡_, refl, sym, ap, _∙_}
 use mathlib.Core.Bool.{Bool, true, false, not, _&&_, _||_}
 use mathlib.Core.Option.{none, some}
@@ -57,7 +57,8 @@ module _ {E : Type 0} (num ready dur : E → ℕ) (opens : ℕ → Bool) where
 
     pub chance-open : chance x w t ≡ true → opens t ≡ true
     unfolding chance
-    chance-open h = and-true (opens t) (leb (ready x) t) (and-true (opens t && leb (ready x) t) (not (busy (w t))) h .0) .0
+    chance-open h =
+        and-true (opens t) (leb (ready x) t) (and-true (opens t && leb (ready x) t) (not (busy (w t))) h .0) .0
 
     pub chance-ready : chance x w t ≡ true → ready x ≤ t
     unfolding chance
@@ -87,8 +88,8 @@ module _ {E : Type 0} (num ready dur : E → ℕ) (opens : ℕ → Bool) where
     layer-busy =
         by-test (takes x w t)
         (λ h.
-            some-busy (layer x w t) (num x) (layer-hit h)
-            ∙ sym (rw (h, chance-free (takes-chance h))))
+        some-busy (layer x w t) (num x) (layer-hit h)
+        ∙ sym (rw (h, chance-free (takes-chance h))))
         (λ h. rw (layer-miss h, h) (sym (or-rest (busy (w t)))))
 
     pub layer-self : ((s : ℕ) → isIt (w s) (num x) ≡ false) → isIt (layer x w t) (num x) ≡ takes x w t
@@ -101,8 +102,8 @@ module _ {E : Type 0} (num ready dur : E → ℕ) (opens : ℕ → Bool) where
     layer-other i apart =
         by-test (takes x w t)
         (λ h.
-            other-works (layer x w t) (num x) i (layer-hit h) (λ e. apart (sym e))
-            ∙ sym (none-works (w t) i (busy-none (w t) (chance-free (takes-chance h)))))
+        other-works (layer x w t) (num x) i (layer-hit h) (λ e. apart (sym e))
+        ∙ sym (none-works (w t) i (busy-none (w t) (chance-free (takes-chance h)))))
         (λ h. rw (layer-miss h))
 
   -- x has had min (slots it could use) (its duration); the others have had what they had
@@ -124,7 +125,7 @@ module _ {E : Type 0} (num ready dur : E → ℕ) (opens : ℕ → Bool) where
   cnt-layer-busy x w t =
       cnt-ext (λ s. busy (layer x w s)) (λ s. busy (w s) || takes x w s) t (λ k h. layer-busy x w k)
       ∙ cnt-or (λ s. busy (w s)) (takes x w) t
-        (λ k h b c. clash b (chance-free x w k (takes-chance x w k c)))
+      (λ k h b c. clash b (chance-free x w k (takes-chance x w k c)))
       ∙ ap (λ (n : ℕ). cnt (λ s. busy (w s)) t + n) (cnt-firstN (dur x) (chance x w) t)
 
   -- since x is ready, every open slot is busy below or one that x can use
@@ -139,6 +140,7 @@ module _ {E : Type 0} (num ready dur : E → ℕ) (opens : ℕ → Bool) where
           by-test (busy (w s))
           (λ e. rw e)
           (λ e. rw (e, chance-when x w s o (omega arith) e))
+
       both : (u : ℕ) → cnt (λ s. busy (w s) || chance x w s) u ≡ cnt (λ s. busy (w s)) u + cnt (chance x w) u
       both u = cnt-or (λ s. busy (w s)) (chance x w) u (λ s a b c. clash b (chance-free x w s c))
 

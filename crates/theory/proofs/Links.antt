@@ -1,7 +1,7 @@
--- Links disappear: where an entry is worked on only after each entry linked before it is finished, and an entry before
--- is sooner than the entry after, the plan is that of the rule WITHOUT links over raised ready moments. Whoever may be
--- worked on has passed its raised moment; and of those past it, the soonest unfinished one has all before it finished.
--- Assumes nothing.
+-- Links disappear: where an entry is worked on only after each entry linked before it is finished, and an entry
+-- before is sooner than the entry after, the plan is that of the rule WITHOUT links over raised ready moments.
+-- Whoever may be worked on has passed its raised moment; and of those past it, the soonest unfinished one has all
+-- before it finished. Assumes nothing.
 use mathlib.Core.Path.{_≡_, refl, sym, ap, _∙_}
 use mathlib.Core.Logic.{_⊎_, inl, inr, ⊎-elim}
 use mathlib.Core.Bool.{Bool, true, false, _&&_}
@@ -39,7 +39,7 @@ module _ {E : Type 0} (num own dur : E → ℕ) (opens : ℕ → Bool) (before :
     allowed =
         choice-allowed num own dur opens sooner L d w (Linked L w)
         (λ t e c. record { hour = c .hour; ripe = c .ripe; left = c .left }) rule;
-    links = λ a e m n b t p. chosen num sooner (Linked L w t) L d (w t) (rule t) e n p .ahead a m b
+    links = λ a e m n b t p. chosen num sooner (Linked L w t) L d (w t) (rule t) e n p .ahead a m b;
   }
 
 module _ {E : Type 0} (num own raised dur : E → ℕ) (opens : ℕ → Bool) (openEnd : ℕ → ℕ → ℕ) (H : Hours opens openEnd)
@@ -71,12 +71,12 @@ module _ {E : Type 0} (num own raised dur : E → ℕ) (opens : ℕ → Bool) (o
   Lead t f = (g : E) × (g ∈ L) × Lin t g × ((g ≡ f) ⊎ (sooner g f ≡ true))
 
   lead-on : (t : ℕ) (a f : E) → sooner a f ≡ true → Lead t a → Lead t f
-  lead-on t a f h l =
-      ( l .0
-      , l .1
-      , l .2
-      , inr (⊎-elim (λ p. rw p h) (λ p. U .trans (l .0) a f p h) (l .3))
-      )
+  lead-on t a f h l = (
+    l .0,
+    l .1,
+    l .2,
+    inr (⊎-elim (λ p. rw p h) (λ p. U .trans (l .0) a f p h) (l .3)),
+  )
 
   leader : (t n : ℕ) (f : E) → f ∈ L → rank f < n → Can t f → Lead t f
   leader t zero f m h c = absurd (omega arith)
@@ -84,6 +84,7 @@ module _ {E : Type 0} (num own raised dur : E → ℕ) (opens : ℕ → Bool) (o
     where
       waiting : E → Bool
       waiting a = before a f && ltb (did w (num a) t) (dur a)
+
       step : ((a : E) → a ∈ L → rank a < n → Can t a → Lead t a)
           → ((a : E) × (a ∈ L) × (waiting a ≡ true)) ⊎ ((a : E) → a ∈ L → waiting a ≡ false) → Lead t f
       step deeper (inl (a, k, e)) =
@@ -91,24 +92,24 @@ module _ {E : Type 0} (num own raised dur : E → ℕ) (opens : ℕ → Bool) (o
           let z : sooner a f ≡ true = before-sooner a f k m b in
           lead-on t a f z
           (deeper a k (omega (arith, rank-less a f k z))
-              (record {
-                hour = c .hour;
-                ripe = omega (arith, H .from (raised a) (dur a), R .later a f k m b, c .ripe);
-                left =
-                    ltb-true (did w (num a) t) (dur a)
-                    (and-true (before a f) (ltb (did w (num a) t) (dur a)) e .1)
-              }))
-      step deeper (inr nobody) =
-          ( f
-          , m
-          , record {
-              hour = c .hour;
-              ripe = omega (arith, R .above f m, c .ripe);
-              left = c .left;
-              ahead = λ a k b. ltb-false (did w (num a) t) (dur a) (rw b at (nobody a k))
-            }
-          , inl refl
-          )
+          (record {
+            hour = c .hour;
+            ripe = omega (arith, H .from (raised a) (dur a), R .later a f k m b, c .ripe);
+            left =
+                ltb-true (did w (num a) t) (dur a)
+                (and-true (before a f) (ltb (did w (num a) t) (dur a)) e .1);
+          }))
+      step deeper (inr nobody) = (
+        f,
+        m,
+        record {
+          hour = c .hour;
+          ripe = omega (arith, R .above f m, c .ripe);
+          left = c .left;
+          ahead = λ a k b. ltb-false (did w (num a) t) (dur a) (rw b at (nobody a k));
+        },
+        inl refl,
+      )
 
   -- LINKS DISAPPEAR
   pub links-disappear : Obeys num raised dur opens sooner L w
@@ -116,6 +117,7 @@ module _ {E : Type 0} (num own raised dur : E → ℕ) (opens : ℕ → Bool) (o
     where
       led : (f : E) → f ∈ L → Can t f → Lead t f
       led f m c = leader t (suc (rank f)) f m (omega arith) c
+
       go : Chooses num sooner (Lin t) L (w t) → Chooses num sooner (Can t) L (w t)
       go (work e m q c s) =
           work e m q
@@ -124,15 +126,15 @@ module _ {E : Type 0} (num own raised dur : E → ℕ) (opens : ℕ → Bool) (o
             ripe =
                 ready-raised num own raised dur opens openEnd H before L R some-work w
                 (obeys-keeps num own dur opens before sooner L d w rule) t e m (c .ripe) (c .ahead);
-            left = c .left
+            left = c .left;
           })
           (λ f n k apart.
-              let l = led f n k in
-              by-eq (num (l .0)) (num e)
-              (λ z.
-                  let same : l .0 ≡ e = same-number num L d (l .0) e (l .1) m z in
-                  ⊎-elim (λ p. absurd (apart (ap num (sym p ∙ same)))) (λ p. rw same at p) (l .3))
-              (λ z.
-                  let ahead : sooner e (l .0) ≡ true = s (l .0) (l .1) (l .2) z in
-                  ⊎-elim (λ p. rw p at ahead) (λ p. U .trans e (l .0) f ahead p) (l .3)))
+          let l = led f n k in
+          by-eq (num (l .0)) (num e)
+          (λ z.
+          let same : l .0 ≡ e = same-number num L d (l .0) e (l .1) m z in
+          ⊎-elim (λ p. absurd (apart (ap num (sym p ∙ same)))) (λ p. rw same at p) (l .3))
+          (λ z.
+          let ahead : sooner e (l .0) ≡ true = s (l .0) (l .1) (l .2) z in
+          ⊎-elim (λ p. rw p at ahead) (λ p. U .trans e (l .0) f ahead p) (l .3)))
       go (rest q n) = rest q (λ f m c. let l = led f m c in n (l .0) (l .1) (l .2))

@@ -12,7 +12,8 @@ use Rattle.laws.proofs.Words.{by-test}
 use Rattle.theory.proofs.Cases.{by-le, clash}
 use Rattle.theory.proofs.Count.{cnt, cnt-zero, cnt-hit, cnt-miss}
 use Rattle.theory.proofs.Lists.{_∈_, by-mem, Distinct}
-use Rattle.theory.proofs.Order.{Urgency, Ordered, sorted, sorted-mem, mem-sorted, sorted-distinct, sorted-ordered}
+use Rattle.theory.proofs.Order.{Urgency, Ordered, sorted, sorted-mem, mem-sorted, sorted-distinct}
+use Rattle.theory.proofs.Order.{sorted-ordered}
 use Rattle.theory.proofs.Plans as Plans
 use Rattle.rules.specs.Words.{isIt}
 use Rattle.theory.proofs.Plans.{Plan, did}
@@ -46,12 +47,13 @@ module _ {E : Type 0} (num ready dur : E → ℕ) (opens : ℕ → Bool) (sooner
         (record {
           hour = Layers.chance-open num ready dur opens x w t chance;
           ripe = Layers.chance-ready num ready dur opens x w t chance;
-          left = omega (arith, own, Layers.takes-left num ready dur opens x w t h)
+          left = omega (arith, own, Layers.takes-left num ready dur opens x w t h);
         })
         (λ f m k apart. by-mem m (λ p. absurd (apart (ap num p))) (λ n. absurd (nobody c f n (old f n k))))
       where
         chance : Layers.chance num ready dur opens x w t ≡ true
         chance = Layers.takes-chance num ready dur opens x w t h
+
         nobody : Chooses num sooner (Can w) L (w t) → (f : E) → f ∈ L → Can w f → ⊥
         nobody (work e m q k s) f n j =
             clash (Plans.some-busy (w t) (num e) q) (Layers.chance-free num ready dur opens x w t chance)
@@ -63,22 +65,22 @@ module _ {E : Type 0} (num ready dur : E → ℕ) (opens : ℕ → Bool) (sooner
         work e (there m) (Layers.layer-miss num ready dur opens x w t h ∙ q)
         (moved num ready dur opens v w t e (same e m) c)
         (λ f n k apart.
-            by-mem n
-            (λ p. rw p (last e m))
-            (λ n′. s f n′ (old f n′ k) apart))
+        by-mem n
+        (λ p. rw p (last e m))
+        (λ n′. s f n′ (old f n′ k) apart))
     layer-misses h (rest q n) =
         rest (Layers.layer-miss num ready dur opens x w t h ∙ q)
         (λ f m c.
-            by-mem m
-            (λ p. done (rw p at c))
-            (λ n′. n f n′ (old f n′ c)))
+        by-mem m
+        (λ p. done (rw p at c))
+        (λ n′. n f n′ (old f n′ c)))
       where
         done : Can v x → ⊥
         done c =
             clash
             (Layers.takes-when num ready dur opens x w t
-                (Layers.chance-when num ready dur opens x w t (c .hour) (c .ripe) (Plans.none-busy (w t) q))
-                (omega (arith, own, c .left)))
+            (Layers.chance-when num ready dur opens x w t (c .hour) (c .ripe) (Plans.none-busy (w t) q))
+            (omega (arith, own, c .left)))
             h
 
   pub layer-obeys : (x : E) (L : List E) → Distinct num (x ∷ L) → ((f : E) → f ∈ L → sooner f x ≡ true) → (w : Plan)
@@ -146,11 +148,11 @@ module _ {E : Type 0} (num ready dur : E → ℕ) (opens : ℕ → Bool) (sooner
     worked-most e m (suc t) =
         by-test (isIt (w t) (num e))
         (λ h.
-            omega
-            ( arith
-            , cnt-hit (λ s. isIt (w s) (num e)) t h
-            , worked-candidate t e m (Plans.works-some (w t) (num e) h) .left
-            ))
+        omega (
+          arith,
+          cnt-hit (λ s. isIt (w s) (num e)) t h,
+          worked-candidate t e m (Plans.works-some (w t) (num e) h) .left,
+        ))
         (λ h. omega (arith, cnt-miss (λ s. isIt (w s) (num e)) t h, worked-most e m t))
 
     pub choice-allowed : Allowed num ready dur opens L w
@@ -160,7 +162,7 @@ module _ {E : Type 0} (num ready dur : E → ℕ) (opens : ℕ → Bool) (sooner
           let r = known t i p (choice t) in
           worked-candidate t (r .0) (r .1) (p ∙ ap some (sym (r .2))) .hour;
       after = λ e m t p. worked-candidate t e m p .ripe;
-      most = worked-most
+      most = worked-most;
     }
       where
         known : (t i : ℕ) → w t ≡ some i → Chooses num sooner (C t) L (w t) → (e : E) × (e ∈ L) × (num e ≡ i)

@@ -1,5 +1,5 @@
--- One block of the block method: if the others are planned by the rule, then with the entry set aside in the slots that
--- they leave free, the block is planned by the rule, and is over by its end. Assumes nothing.
+-- One block of the block method: if the others are planned by the rule, then with the entry set aside in the slots
+-- that they leave free, the block is planned by the rule, and is over by its end. Assumes nothing.
 use mathlib.Core.Path.{_≡_, sym, ap, _∙_}
 use mathlib.Core.Bool.{Bool, true, _&&_}
 use mathlib.Core.Option.{some}
@@ -46,7 +46,7 @@ pub record Sound (opens : ℕ → Bool) (B : Block) : Type 0 where
 module _ (follows : ℕ → ℕ → Bool) (opens : ℕ → Bool) (endOf : ℕ → ℕ → ℕ) (H : Hours opens endOf)
     (planned : List Entry → Plan) (B : Block) (S : Sound opens B)
     (links : (e f : Entry) → e ∈ B .members → f ∈ B .members → follows (e .number) (f .number) ≡ true
-        → urgent e f ≡ true)
+    → urgent e f ≡ true)
     (rest : (z : Entry) → z ∈ B .members → ObeysFor opens (others B z) (planned (others B z))) where
   -- who the block works on
   abbrev pub works : Plan
@@ -65,17 +65,17 @@ module _ (follows : ℕ → ℕ → Bool) (opens : ℕ → Bool) (endOf : ℕ �
         obeys-members number readyAt lasting opens urgent (z ∷ others B z) (B .members)
         (λ f m. by-mem m (λ p. rw p (last .member)) (λ n. mem-others B z f n .0))
         (λ f m.
-            by-eq (f .number) (z .number)
-            (λ e. here (same-number number (B .members) (S .apart) f z m (last .member) e))
-            (λ e. there (others-mem B z f m e)))
+        by-eq (f .number) (z .number)
+        (λ e. here (same-number number (B .members) (S .apart) f z m (last .member) e))
+        (λ e. there (others-mem B z f m e)))
         v
         (layer-obeys number readyAt lasting opens urgent z (others B z)
-            (λ a m. mem-others B z a m .1, others-distinct B z (S .apart))
-            (λ f m. let k = mem-others B z f m in last .behind f (k .0) (k .1))
-            below
-            (obeys-fresh number readyAt lasting opens urgent (others B z) below (rest z (last .member)) (z .number)
-                (λ e m. mem-others B z e m .1))
-            (rest z (last .member)))
+        (λ a m. mem-others B z a m .1, others-distinct B z (S .apart))
+        (λ f m. let k = mem-others B z f m in last .behind f (k .0) (k .1))
+        below
+        (obeys-fresh number readyAt lasting opens urgent (others B z) below (rest z (last .member)) (z .number)
+        (λ e m. mem-others B z e m .1))
+        (rest z (last .member)))
 
     -- it is busy in the slots of the block, and in no other
     slot-busy : (t : ℕ) → busy (v t) ≡ isSlotOf follows opens endOf B t
@@ -91,24 +91,24 @@ module _ (follows : ℕ → ℕ → Bool) (opens : ℕ → Bool) (endOf : ℕ �
     same t =
         rw (chosen, inBlock)
         (by-test (isSlotOf follows opens endOf B t)
-            (λ h. rw (h, when) (inside h))
-            (λ h. rw (h, when) (Plans.busy-none (v t) (slot-busy t ∙ h))))
+        (λ h. rw (h, when) (inside h))
+        (λ h. rw (h, when) (Plans.busy-none (v t) (slot-busy t ∙ h))))
       where
         inside : isSlotOf follows opens endOf B t ≡ true → v t ≡ orElse (below t) (some (z .number))
         inside h =
             Plans.by-who (below t)
             (λ e.
-                by-test (Layers.takes number readyAt lasting opens z below t)
-                (λ k.
-                    Layers.layer-hit number readyAt lasting opens z below t k
-                    ∙ sym (orElse-none (below t) (some (z .number)) e))
-                (λ k.
-                    clash (slot-busy t ∙ h)
-                    (Plans.none-busy (v t) (Layers.layer-miss number readyAt lasting opens z below t k ∙ e))))
+            by-test (Layers.takes number readyAt lasting opens z below t)
+            (λ k.
+            Layers.layer-hit number readyAt lasting opens z below t k
+            ∙ sym (orElse-none (below t) (some (z .number)) e))
+            (λ k.
+            clash (slot-busy t ∙ h)
+            (Plans.none-busy (v t) (Layers.layer-miss number readyAt lasting opens z below t k ∙ e))))
             (λ j e.
-                Layers.layer-miss number readyAt lasting opens z below t
-                (Layers.takes-behind number readyAt lasting opens z below t (Plans.some-busy (below t) j e))
-                ∙ sym (orElse-some (below t) (some (z .number)) j e))
+            Layers.layer-miss number readyAt lasting opens z below t
+            (Layers.takes-behind number readyAt lasting opens z below t (Plans.some-busy (below t) j e))
+            ∙ sym (orElse-some (below t) (some (z .number)) j e))
 
   abbrev aside : (z : Entry) × (setAside follows B ≡ some z) × Last (B .members) z
   aside = set-aside follows B (S .apart) links (S .filled .0) (S .filled .1)
@@ -124,6 +124,6 @@ module _ (follows : ℕ → ℕ → Bool) (opens : ℕ → Bool) (endOf : ℕ �
   block-over t h =
       let a = aside in
       let slot : isSlotOf follows opens endOf B t ≡ true =
-          sym (slot-busy (a .0) (a .1) (a .2) t) ∙ ap busy (same (a .0) (a .1) (a .2) t) ∙ h in
+      sym (slot-busy (a .0) (a .1) (a .2) t) ∙ ap busy (same (a .0) (a .1) (a .2) t) ∙ h in
       let k = and-true (leb (B .from) t && ltb t (blockEnd endOf B)) (opens t) slot in
       ltb-true t (blockEnd endOf B) (and-true (leb (B .from) t) (ltb t (blockEnd endOf B)) (k .0) .1)

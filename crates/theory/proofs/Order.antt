@@ -1,5 +1,5 @@
--- The order of urgency, `sooner`, as far as the desk needs it: a strict order that is total on different numbers. Sorting
--- by it, LEAST urgent first, keeps the entries and puts them in order. Assumes nothing.
+-- The order of urgency, `sooner`, as far as the desk needs it: a strict order that is total on different numbers.
+-- Sorting by it, LEAST urgent first, keeps the entries and puts them in order. Assumes nothing.
 use mathlib.Core.Path.{_≡_, refl, sym, ap, _∙_}
 use mathlib.Core.Bool.{Bool, true, false}
 use mathlib.Core.List.{List, [], _∷_}
@@ -67,8 +67,8 @@ module _ {E : Type 0} (sooner : E → E → Bool) where
       by-test (sooner y x)
       (λ h. let n : e ∈ x ∷ y ∷ L = rw (insert-front x y L h) at m in by-mem n new old)
       (λ h.
-          let n : e ∈ y ∷ insert x L = rw (insert-behind x y L h) at m in
-          by-mem n (λ p. old (here p)) (λ k. insert-from x L e k new (λ o. old (there o))))
+      let n : e ∈ y ∷ insert x L = rw (insert-behind x y L h) at m in
+      by-mem n (λ p. old (here p)) (λ k. insert-from x L e k new (λ o. old (there o))))
 
   pub sorted-mem : (L : List E) (e : E) → e ∈ L → e ∈ sorted L
   unfolding sorted
@@ -90,8 +90,8 @@ module _ {E : Type 0} (sooner : E → E → Bool) where
       by-test (sooner y x)
       (λ h. rw (insert-front x y L h) (sum-cons f x (y ∷ L)))
       (λ h.
-          rw (insert-behind x y L h)
-          (omega (arith, sum-cons f y (insert x L), sum-cons f y L, insert-sum f x L)))
+      rw (insert-behind x y L h)
+      (omega (arith, sum-cons f y (insert x L), sum-cons f y L, insert-sum f x L)))
 
   pub sorted-sum : (f : E → ℕ) (L : List E) → sumOf f (sorted L) ≡ sumOf f L
   unfolding sorted
@@ -120,15 +120,15 @@ module _ {E : Type 0} (sooner : E → E → Bool) where
     insert-climbs x (y ∷ L) c =
         by-test (sooner y x)
         (λ h.
-            rw (insert-front x y L h)
-            ( λ f m. by-mem m (λ p. rw p (front x y h)) (λ n. omega (arith, front x y h, c .0 f n))
-            , c
-            ))
+        rw (insert-front x y L h) (
+          λ f m. by-mem m (λ p. rw p (front x y h)) (λ n. omega (arith, front x y h, c .0 f n)),
+          c,
+        ))
         (λ h.
-            rw (insert-behind x y L h)
-            ( λ f m. insert-from x L f m (λ p. rw p (behind x y h)) (λ n. c .0 f n)
-            , insert-climbs x L (c .1)
-            ))
+        rw (insert-behind x y L h) (
+          λ f m. insert-from x L f m (λ p. rw p (behind x y h)) (λ n. c .0 f n),
+          insert-climbs x L (c .1),
+        ))
 
     pub sorted-climbs : (L : List E) → Climbs key (sorted L)
     unfolding sorted
@@ -144,13 +144,13 @@ module _ {E : Type 0} (sooner : E → E → Bool) where
         by-test (sooner y x)
         (λ h. rw (insert-front x y L h) (apart, d))
         (λ h.
-            rw (insert-behind x y L h)
-            ( λ a m e.
-                insert-from x L a m
-                (λ p. apart y (here refl) (sym e ∙ ap num p))
-                (λ n. d .0 a n e)
-            , insert-distinct x L (λ a m. apart a (there m)) (d .1)
-            ))
+        rw (insert-behind x y L h) (
+          λ a m e.
+              insert-from x L a m
+              (λ p. apart y (here refl) (sym e ∙ ap num p))
+              (λ n. d .0 a n e),
+          insert-distinct x L (λ a m. apart a (there m)) (d .1),
+        ))
 
     pub sorted-distinct : (L : List E) → Distinct num L → Distinct num (sorted L)
     unfolding sorted
@@ -166,14 +166,14 @@ module _ {E : Type 0} (sooner : E → E → Bool) where
       insert-ordered x (y ∷ L) apart o =
           by-test (sooner y x)
           (λ h.
-              rw (insert-front x y L h)
-              (λ f m. by-mem m (λ p. rw p h) (λ n. U .trans f y x (o .0 f n) h), o))
+          rw (insert-front x y L h)
+          (λ f m. by-mem m (λ p. rw p h) (λ n. U .trans f y x (o .0 f n) h), o))
           (λ h.
-              let later : sooner x y ≡ true = U .total y x (apart y (here refl)) h in
-              rw (insert-behind x y L h)
-              ( λ f m. insert-from x L f m (λ p. rw p later) (λ n. o .0 f n)
-              , insert-ordered x L (λ a m. apart a (there m)) (o .1)
-              ))
+          let later : sooner x y ≡ true = U .total y x (apart y (here refl)) h in
+          rw (insert-behind x y L h) (
+            λ f m. insert-from x L f m (λ p. rw p later) (λ n. o .0 f n),
+            insert-ordered x L (λ a m. apart a (there m)) (o .1),
+          ))
 
       pub sorted-ordered : (L : List E) → Distinct num L → Ordered (sorted L)
       unfolding sorted

@@ -1,5 +1,5 @@
--- A plan of a desk says for each slot the number worked on, or that the desk rests. Here are the words for plans: who
--- isIt, how often before a moment, and a plan with one number taken out. Assumes nothing.
+-- A plan of a desk says for each slot the number worked on, or that the desk rests. Here are the words for plans:
+-- who isIt, how often before a moment, and a plan with one number taken out. Assumes nothing.
 use mathlib.Core.Path.{_≡_, refl, sym, ap, _∙_}
 use mathlib.Core.Bool.{Bool, true, false, _||_}
 use mathlib.Core.Option.{Option, none, some, Option·none-ne-some}
@@ -92,8 +92,8 @@ module _ (i : ℕ) (w : Plan) (t : ℕ) where
   without-other j apart =
       by-test (isIt (w t) i)
       (λ h.
-          none-works (without i w t) j (without-hit h)
-          ∙ sym (other-works (w t) i j (works-some (w t) i h) (λ e. apart (sym e))))
+      none-works (without i w t) j (without-hit h)
+      ∙ sym (other-works (w t) i j (works-some (w t) i h) (λ e. apart (sym e))))
       (λ h. rw (without-miss h))
 
 pub did-without : (i : ℕ) (w : Plan) (j : ℕ) → (j ≡ i → ⊥) → (t : ℕ) → did (without i w) j t ≡ did w j t
@@ -109,6 +109,7 @@ busy-without i w t =
   where
     gone : (k : ℕ) → isIt (w k) i ≡ true → busy (without i w k) ≡ false
     gone k h = none-busy (without i w k) (without-hit i w k h)
+
     point : (k : ℕ) → busy (w k) ≡ (busy (without i w k) || isIt (w k) i)
     point k =
         by-test (isIt (w k) i)

@@ -1,6 +1,6 @@
--- Raised ready moments: of an entry linked behind others on its desk, the first moment at which it could be worked on if
--- each of those were worked on at once. Whatever plan keeps the links works on nothing before its raised moment, so it
--- is allowed also without links, by the raised moments. Assumes nothing.
+-- Raised ready moments: of an entry linked behind others on its desk, the first moment at which it could be worked
+-- on if each of those were worked on at once. Whatever plan keeps the links works on nothing before its raised
+-- moment, so it is allowed also without links, by the raised moments. Assumes nothing.
 use mathlib.Core.Path.{_≡_}
 use mathlib.Core.Bool.{Bool, true}
 use mathlib.Core.Option.{some}
@@ -44,21 +44,21 @@ module _ {E : Type 0} (num own raised dur : E → ℕ) (opens : ℕ → Bool) (o
       by-le t (raised a)
       (λ h. absurd (omega (arith, untouched t (omega arith) h, some-work a m)))
       (λ h.
-          H .least (raised a) (dur a) t (omega arith)
-          (omega
-          ( arith
-          , cnt-gain (λ s. isIt (q s) (num a)) opens (raised a) t (omega arith)
-            (λ k x y e. keeps .allowed .hours k (num a) (Plans.works-some (q k) (num a) e))
-          , untouched (raised a) (omega arith) (omega arith)
-          )))
+      H .least (raised a) (dur a) t (omega arith)
+      (omega (
+        arith,
+        cnt-gain (λ s. isIt (q s) (num a)) opens (raised a) t (omega arith)
+            (λ k x y e. keeps .allowed .hours k (num a) (Plans.works-some (q k) (num a) e)),
+        untouched (raised a) (omega arith) (omega arith),
+      )))
     where
       untouched : (u : ℕ) → u ≤ t → u ≤ raised a → did q (num a) u ≡ 0
       untouched u h k =
           cnt-false (λ s. isIt (q s) (num a)) u
           (λ s l.
-              by-test (isIt (q s) (num a))
-              (λ e. absurd (omega (arith, late s (omega arith) a m (Plans.works-some (q s) (num a) e))))
-              (λ e. e))
+          by-test (isIt (q s) (num a))
+          (λ e. absurd (omega (arith, late s (omega arith) a m (Plans.works-some (q s) (num a) e))))
+          (λ e. e))
 
   -- whoever has its own moment behind it and each before it finished has its raised moment behind it
   raised-come : (t : ℕ) → Late t → (e : E) → e ∈ L → own e ≤ t
@@ -70,11 +70,11 @@ module _ {E : Type 0} (num own raised dur : E → ℕ) (opens : ℕ → Bool) (o
   never-early (suc t) s h a m p =
       by-le t s
       (λ k.
-          let z : s ≡ t = omega arith in
-          let p′ : q t ≡ some (num a) = rw z at p in
-          rw z
-          (raised-come t (never-early t) a m (keeps .allowed .after a m t p′)
-              (λ b n l. keeps .links b a n m l t p′)))
+      let z : s ≡ t = omega arith in
+      let p′ : q t ≡ some (num a) = rw z at p in
+      rw z
+      (raised-come t (never-early t) a m (keeps .allowed .after a m t p′)
+      (λ b n l. keeps .links b a n m l t p′)))
       (λ k. never-early t s k a m p)
 
   pub ready-raised : (t : ℕ) (e : E) → e ∈ L → own e ≤ t
@@ -87,5 +87,5 @@ module _ {E : Type 0} (num own raised dur : E → ℕ) (opens : ℕ → Bool) (o
     known = keeps .allowed .known;
     hours = keeps .allowed .hours;
     after = λ e m t p. never-early (suc t) t (omega arith) e m p;
-    most = keeps .allowed .most
+    most = keeps .allowed .most;
   }

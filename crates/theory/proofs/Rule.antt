@@ -1,5 +1,5 @@
--- The page's rule, slot by slot: the desk isIt on the soonest candidate, and rests only if there is none. A plan that
--- obeys it for a list in order of urgency IS the plan by layers, in every slot. Assumes nothing.
+-- The page's rule, slot by slot: the desk isIt on the soonest candidate, and rests only if there is none. A plan
+-- that obeys it for a list in order of urgency IS the plan by layers, in every slot. Assumes nothing.
 use mathlib.Core.Path.{_≡_, refl, sym, ap, _∙_, fun-ext}
 use mathlib.Core.Bool.{Bool, true, _&&_}
 use mathlib.Core.Option.{Option, none, some, Option·some-injective}
@@ -19,7 +19,8 @@ use Rattle.theory.proofs.Plans.{Plan, did, without}
 use Rattle.theory.proofs.Layers as Layers
 
 -- what a desk does in a slot, when C says who is a candidate: the soonest of them, or nothing where there is none
-pub data Chooses {E : Type 0} (num : E → ℕ) (sooner : E → E → Bool) (C : E → Type 0) (L : List E) (o : Option ℕ) : Type 0 where
+pub data Chooses {E : Type 0} (num : E → ℕ) (sooner : E → E → Bool) (C : E → Type 0) (L : List E) (o : Option ℕ)
+    : Type 0 where
   work : (e : E) → e ∈ L → o ≡ some (num e) → C e
       → ((f : E) → f ∈ L → C f → (num f ≡ num e → ⊥) → sooner e f ≡ true) → Chooses num sooner C L o
   rest : o ≡ none → ((f : E) → f ∈ L → C f → ⊥) → Chooses num sooner C L o
@@ -55,23 +56,26 @@ module _ {E : Type 0} (num ready dur : E → ℕ) (opens : ℕ → Bool) where
       where
         v : Plan
         v = without (num x) w
+
         same : (f : E) → f ∈ L → did v (num f) t ≡ did w (num f) t
         same f m = Plans.did-without (num x) w (num f) (d .0 f m) t
+
         old : (f : E) → f ∈ L → Candidate v t f → Candidate w t f
         old f m c = moved w v t f (sym (same f m)) c
+
         go : Chooses num sooner (Candidate w t) (x ∷ L) (w t) → Chooses num sooner (Candidate v t) L (v t)
         go (work e m q c s) =
             by-mem m
             (λ p.
-                rest
-                (Plans.without-hit (num x) w t (Plans.some-works (w t) (num x) (q ∙ ap some (ap num p))))
-                (λ f n k.
-                    asym e f (s f (there n) (old f n k) (λ z. d .0 f n (z ∙ ap num p))) (rw p (o .0 f n))))
+            rest
+            (Plans.without-hit (num x) w t (Plans.some-works (w t) (num x) (q ∙ ap some (ap num p))))
+            (λ f n k.
+            asym e f (s f (there n) (old f n k) (λ z. d .0 f n (z ∙ ap num p))) (rw p (o .0 f n))))
             (λ n.
-                work e n
-                (Plans.without-miss (num x) w t (Plans.other-works (w t) (num e) (num x) q (d .0 e n)) ∙ q)
-                (moved v w t e (same e n) c)
-                (λ f k h apart. s f (there k) (old f k h) apart))
+            work e n
+            (Plans.without-miss (num x) w t (Plans.other-works (w t) (num e) (num x) q (d .0 e n)) ∙ q)
+            (moved v w t e (same e n) c)
+            (λ f k h apart. s f (there k) (old f k h) apart))
         go (rest q n) =
             rest
             (Plans.without-miss (num x) w t (Plans.none-works (w t) (num x) q) ∙ q)
@@ -88,11 +92,11 @@ module _ {E : Type 0} (num ready dur : E → ℕ) (opens : ℕ → Bool) where
       worked-chance : (t : ℕ) → isIt (w t) (num x) ≡ true → (chance t && ltb (did w (num x) t) (dur x)) ≡ true
       worked-chance t h =
           let c : Candidate w t x =
-              chosen num sooner (Candidate w t) (x ∷ L) d (w t) (rule t) x (here refl)
-              (Plans.works-some (w t) (num x) h) in
+          chosen num sooner (Candidate w t) (x ∷ L) d (w t) (rule t) x (here refl)
+          (Plans.works-some (w t) (num x) h) in
           and-intro _ _
           (Layers.chance-when num ready dur opens x v t (c .hour) (c .ripe)
-              (Plans.none-busy (v t) (Plans.without-hit (num x) w t h)))
+          (Plans.none-busy (v t) (Plans.without-hit (num x) w t h)))
           (lt-ltb (did w (num x) t) (dur x) (c .left))
 
       chance-worked : (t : ℕ) → (chance t && ltb (did w (num x) t) (dur x)) ≡ true → isIt (w t) (num x) ≡ true
@@ -100,23 +104,25 @@ module _ {E : Type 0} (num ready dur : E → ℕ) (opens : ℕ → Bool) where
         where
           c : chance t ≡ true
           c = and-true (chance t) (ltb (did w (num x) t) (dur x)) h .0
+
           here· : Candidate w t x
           here· = record {
             hour = Layers.chance-open num ready dur opens x v t c;
             ripe = Layers.chance-ready num ready dur opens x v t c;
             left =
                 ltb-true (did w (num x) t) (dur x)
-                (and-true (chance t) (ltb (did w (num x) t) (dur x)) h .1)
+                (and-true (chance t) (ltb (did w (num x) t) (dur x)) h .1);
           }
+
           go : Chooses num sooner (Candidate w t) (x ∷ L) (w t) → isIt (w t) (num x) ≡ true
           go (work e m q k s) =
               by-mem m
               (λ p. Plans.some-works (w t) (num x) (q ∙ ap some (ap num p)))
               (λ n.
-                  clash
-                  (Plans.works-busy (v t) (num e)
-                      (Plans.without-other (num x) w t (num e) (d .0 e n) ∙ Plans.some-works (w t) (num e) q))
-                  (Layers.chance-free num ready dur opens x v t c))
+              clash
+              (Plans.works-busy (v t) (num e)
+              (Plans.without-other (num x) w t (num e) (d .0 e n) ∙ Plans.some-works (w t) (num e) q))
+              (Layers.chance-free num ready dur opens x v t c))
           go (rest q n) = absurd (n x (here refl) here·)
 
       lowest : (t : ℕ) → w t ≡ Layers.layer num ready dur opens x v t
@@ -124,13 +130,13 @@ module _ {E : Type 0} (num ready dur : E → ℕ) (opens : ℕ → Bool) where
       lowest t =
           by-test (Layers.takes num ready dur opens x v t)
           (λ h.
-              Plans.works-some (w t) (num x) (same ∙ h)
-              ∙ sym (Layers.layer-hit num ready dur opens x v t h))
+          Plans.works-some (w t) (num x) (same ∙ h)
+          ∙ sym (Layers.layer-hit num ready dur opens x v t h))
           (λ h.
-              sym
-              ( Layers.layer-miss num ready dur opens x v t h
-              ∙ Plans.without-miss (num x) w t (same ∙ h)
-              ))
+          sym
+          (Layers.layer-miss num ready dur opens x v t h
+          ∙ Plans.without-miss (num x) w t (same ∙ h)
+          ))
         where
           same : isIt (w t) (num x) ≡ Layers.takes num ready dur opens x v t
           same =
@@ -150,6 +156,6 @@ module _ {E : Type 0} (num ready dur : E → ℕ) (opens : ℕ → Bool) where
         go (rest q n) = q
     obeys-is-layers asym (x ∷ L) d o w rule t =
         let ih : (t : ℕ) → without (num x) w t ≡ Layers.layers num ready dur opens L t =
-            obeys-is-layers asym L (d .1) (o .1) (without (num x) w) (peel sooner x L d asym o w rule) in
+        obeys-is-layers asym L (d .1) (o .1) (without (num x) w) (peel sooner x L d asym o w rule) in
         lowest sooner x L d w rule t
         ∙ ap (λ (v : Plan). Layers.layer num ready dur opens x v t) (fun-ext ih)

@@ -1,7 +1,7 @@
 -- The bound on runs: a desk with m entries, m at least 1, has at most 2 m - 1 runs. Each layer adds at most 2 to the
--- score of the row: it fills every free open slot from its first chance to its last slot; to fill the free slots between
--- two busy stretches costs one run and saves one waking, and only the first and the last filling may cost one more.
--- Assumes nothing.
+-- score of the row: it fills every free open slot from its first chance to its last slot; to fill the free slots
+-- between two busy stretches costs one run and saves one waking, and only the first and the last filling may cost
+-- one more. Assumes nothing.
 use mathlib.Core.Path.{_≡_, refl, ap, _∙_, fun-ext}
 use mathlib.Core.Logic.{_⊎_, inl, inr, ⊎-elim}
 use mathlib.Core.Bool.{Bool, true}
@@ -24,7 +24,8 @@ use Rattle.theory.proofs.Layers as Layers
 use Rattle.theory.proofs.Rule.{Obeys}
 use Rattle.theory.proofs.Obeyed.{obeys-layers}
 use Rattle.theory.proofs.Turns.{turnsOf, whos-turns, Rise, rise-open}
-use Rattle.theory.proofs.Score.{begun, score, runs-are, begun-waking, value-rest, value-wake, value-same, value-change, value-most, score-at, score-drop, rests-score}
+use Rattle.theory.proofs.Score.{begun, score, runs-are, begun-waking, value-rest, value-wake, value-same}
+use Rattle.theory.proofs.Score.{value-change, value-most, score-at, score-drop, rests-score}
 
 module _ {E : Type 0} (num ready dur : E → ℕ) (opens : ℕ → Bool) (x : E) (w : Plan) where
   abbrev b : Plan
@@ -45,20 +46,20 @@ module _ {E : Type 0} (num ready dur : E → ℕ) (opens : ℕ → Bool) (x : E)
   during s o r l =
       Plans.by-who (w s)
       (λ e.
-          inl
-          ( e
-          , Layers.layer-hit num ready dur opens x w s
+      inl (
+        e,
+        Layers.layer-hit num ready dur opens x w s
             (Layers.takes-when num ready dur opens x w s
-                (Layers.chance-when num ready dur opens x w s o r (Plans.none-busy (w s) e)) l)
-          ))
+            (Layers.chance-when num ready dur opens x w s o r (Plans.none-busy (w s) e)) l),
+      ))
       (λ j e.
-          inr
-          ( j
-          , e
-          , Layers.layer-miss num ready dur opens x w s
+      inr (
+        j,
+        e,
+        Layers.layer-miss num ready dur opens x w s
             (Layers.takes-behind num ready dur opens x w s (Plans.some-busy (w s) j e))
-            ∙ e
-          ))
+            ∙ e,
+      ))
 
   onward : (s : ℕ) (ts : List ℕ) → Rise (s ∷ ts) → dur x ≤ cnt chance s → (t : ℕ) → t ∈ s ∷ ts → dur x ≤ cnt chance t
   onward s ts r k t m =
@@ -73,50 +74,50 @@ module _ {E : Type 0} (num ready dur : E → ℕ) (opens : ℕ → Bool) (x : E)
       let ih = since ts (r .1) (λ t m. o t (there m)) (λ t m. h t (there m)) in
       by-le (dur x) (cnt chance s)
       (λ k.
-          let same : map b (s ∷ ts) ≡ map w (s ∷ ts) =
-              over (s ∷ ts) (onward s ts r k) in
-          ( λ j. omega (arith, ap (score (some j)) same)
-          , omega (arith, ap (score (some (num x))) same, score-drop (num x) (map w (s ∷ ts)))
-          ))
+      let same : map b (s ∷ ts) ≡ map w (s ∷ ts) =
+      over (s ∷ ts) (onward s ts r k) in (
+        λ j. omega (arith, ap (score (some j)) same),
+        omega (arith, ap (score (some (num x))) same, score-drop (num x) (map w (s ∷ ts))),
+      ))
       (λ k.
-          ⊎-elim
-          (λ e.
-              ( λ j.
-                  omega
-                  ( arith
-                  , score-at (some j) (b s) (some (num x)) (map b ts) (e .1)
-                  , score-at (some j) (w s) none (map w ts) (e .0)
-                  , value-change j (num x)
-                  , value-rest (some j)
-                  , ih .1
-                  )
-              , omega
-                ( arith
-                , score-at (some (num x)) (b s) (some (num x)) (map b ts) (e .1)
-                , score-at none (w s) none (map w ts) (e .0)
-                , value-same (num x)
-                , value-rest none
-                , ih .1
-                )
-              ))
-          (λ e.
-              ( λ j.
-                  omega
-                  ( arith
-                  , score-at (some j) (b s) (some (e .0)) (map b ts) (e .2)
-                  , score-at (some j) (w s) (some (e .0)) (map w ts) (e .1)
-                  , ih .0 (e .0)
-                  )
-              , omega
-                ( arith
-                , score-at (some (num x)) (b s) (some (e .0)) (map b ts) (e .2)
-                , score-at none (w s) (some (e .0)) (map w ts) (e .1)
-                , value-wake (e .0)
-                , value-change (num x) (e .0)
-                , ih .0 (e .0)
-                )
-              ))
-          (during s (o s (here refl)) (h s (here refl)) k))
+      ⊎-elim
+      (λ e. (
+        λ j.
+            omega (
+              arith,
+              score-at (some j) (b s) (some (num x)) (map b ts) (e .1),
+              score-at (some j) (w s) none (map w ts) (e .0),
+              value-change j (num x),
+              value-rest (some j),
+              ih .1,
+            ),
+        omega (
+          arith,
+          score-at (some (num x)) (b s) (some (num x)) (map b ts) (e .1),
+          score-at none (w s) none (map w ts) (e .0),
+          value-same (num x),
+          value-rest none,
+          ih .1,
+        ),
+      ))
+      (λ e. (
+        λ j.
+            omega (
+              arith,
+              score-at (some j) (b s) (some (e .0)) (map b ts) (e .2),
+              score-at (some j) (w s) (some (e .0)) (map w ts) (e .1),
+              ih .0 (e .0),
+            ),
+        omega (
+          arith,
+          score-at (some (num x)) (b s) (some (e .0)) (map b ts) (e .2),
+          score-at none (w s) (some (e .0)) (map w ts) (e .1),
+          value-wake (e .0),
+          value-change (num x) (e .0),
+          ih .0 (e .0),
+        ),
+      ))
+      (during s (o s (here refl)) (h s (here refl)) k))
 
   -- one layer more costs at most 2
   layer-score : (ts : List ℕ) → Rise ts → ((t : ℕ) → t ∈ ts → opens t ≡ true) → (p : Option ℕ)
@@ -126,37 +127,37 @@ module _ {E : Type 0} (num ready dur : E → ℕ) (opens : ℕ → Bool) (x : E)
   layer-score (s ∷ ts) r o p =
       by-le (ready x) s
       (λ h.
-          let ih = since ts (r .1) (λ t m. o t (there m)) (λ t m. omega (arith, r .0 t m)) in
-          by-le (dur x) (cnt chance s)
-          (λ k.
-              let same : map b (s ∷ ts) ≡ map w (s ∷ ts) = over (s ∷ ts) (onward s ts r k) in
-              omega (arith, ap (score p) same))
-          (λ k.
-              ⊎-elim
-              (λ e.
-                  omega
-                  ( arith
-                  , score-at p (b s) (some (num x)) (map b ts) (e .1)
-                  , score-at p (w s) none (map w ts) (e .0)
-                  , value-most p (num x)
-                  , value-rest p
-                  , ih .1
-                  ))
-              (λ e.
-                  omega
-                  ( arith
-                  , score-at p (b s) (some (e .0)) (map b ts) (e .2)
-                  , score-at p (w s) (some (e .0)) (map w ts) (e .1)
-                  , ih .0 (e .0)
-                  ))
-              (during s (o s (here refl)) h k)))
+      let ih = since ts (r .1) (λ t m. o t (there m)) (λ t m. omega (arith, r .0 t m)) in
+      by-le (dur x) (cnt chance s)
+      (λ k.
+      let same : map b (s ∷ ts) ≡ map w (s ∷ ts) = over (s ∷ ts) (onward s ts r k) in
+      omega (arith, ap (score p) same))
+      (λ k.
+      ⊎-elim
+      (λ e.
+      omega (
+        arith,
+        score-at p (b s) (some (num x)) (map b ts) (e .1),
+        score-at p (w s) none (map w ts) (e .0),
+        value-most p (num x),
+        value-rest p,
+        ih .1,
+      ))
+      (λ e.
+      omega (
+        arith,
+        score-at p (b s) (some (e .0)) (map b ts) (e .2),
+        score-at p (w s) (some (e .0)) (map w ts) (e .1),
+        ih .0 (e .0),
+      ))
+      (during s (o s (here refl)) h k)))
       (λ h.
-          omega
-          ( arith
-          , score-at p (b s) (w s) (map b ts)
-            (Layers.layer-miss num ready dur opens x w s (Layers.takes-early num ready dur opens x w s h))
-          , layer-score ts (r .1) (λ t m. o t (there m)) (w s)
-          ))
+      omega (
+        arith,
+        score-at p (b s) (w s) (map b ts)
+            (Layers.layer-miss num ready dur opens x w s (Layers.takes-early num ready dur opens x w s h)),
+        layer-score ts (r .1) (λ t m. o t (there m)) (w s),
+      ))
 
 module _ {E : Type 0} (num ready dur : E → ℕ) (opens : ℕ → Bool) where
   layers-score : (L : List E) (ts : List ℕ) → Rise ts → ((t : ℕ) → t ∈ ts → opens t ≡ true)
@@ -164,10 +165,10 @@ module _ {E : Type 0} (num ready dur : E → ℕ) (opens : ℕ → Bool) where
   unfolding Layers.layers
   layers-score [] ts r o = omega (arith, rests-score ts)
   layers-score (x ∷ L) ts r o =
-      omega
-      ( arith
-      , layer-score num ready dur opens x (Layers.layers num ready dur opens L) ts r o none
-      , layers-score L ts r o
+      omega (
+        arith,
+        layer-score num ready dur opens x (Layers.layers num ready dur opens L) ts r o none,
+        layers-score L ts r o,
       )
 
   -- AT MOST 2 m - 1 RUNS
@@ -179,12 +180,12 @@ module _ {E : Type 0} (num ready dur : E → ℕ) (opens : ℕ → Bool) where
       let ts : List ℕ = keep opens (below h) in
       let same : w ≡ v = fun-ext (obeys-layers num ready dur opens sooner U L d w rule) in
       let most : score none (map v ts) ≤ 2 * length L =
-          omega
-          ( arith
-          , layers-score (sorted sooner L) ts (rise-open opens h)
-            (λ t m. mem-keep opens (below h) t m .1)
-          , sorted-length sooner L
-          ) in
+      omega (
+        arith,
+        layers-score (sorted sooner L) ts (rise-open opens h)
+            (λ t m. mem-keep opens (below h) t m .1),
+        sorted-length sooner L,
+      ) in
       let runs : length (runsFrom none (turnsOf opens w h)) ≡ begun none (map v ts) =
-          rw same (runs-are (turnsOf opens v h) ∙ ap (begun none) (whos-turns v ts)) in
+      rw same (runs-are (turnsOf opens v h) ∙ ap (begun none) (whos-turns v ts)) in
       ⊎-elim (λ z. omega arith) (λ z. omega arith) (begun-waking (map v ts))

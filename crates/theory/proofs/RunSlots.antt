@@ -1,5 +1,5 @@
--- The run lengths of a piece add to the slots worked on it: no slot of work is lost between runs, and none is counted
--- twice. With the whole duration worked, they add to the duration. Assumes nothing.
+-- The run lengths of a piece add to the slots worked on it: no slot of work is lost between runs, and none is
+-- counted twice. With the whole duration worked, they add to the duration. Assumes nothing.
 use mathlib.Core.Path.{_≡_, ap}
 use mathlib.Core.Bool.{Bool, true, _&&_}
 use mathlib.Core.Option.{Option, none, some}
@@ -38,7 +38,8 @@ closing-slots i (some r) rs =
     (λ e. rw (e, when) (omega arith))
 
 -- one slot longer, or begun
-longer-slots : (i : ℕ) (r : Run) (t : ℕ) → underWay i (some (longerRun r t)) ≡ underWay i (some r) + bit (eqb (r .piece) i)
+longer-slots : (i : ℕ) (r : Run) (t : ℕ)
+    → underWay i (some (longerRun r t)) ≡ underWay i (some r) + bit (eqb (r .piece) i)
 unfolding underWay bit when
 longer-slots i r t =
     by-test (eqb (r .piece) i)
@@ -56,16 +57,16 @@ runs-slots i (x ∷ xs) =
     by-turn (λ u. slotsOf i (runsFrom u (x ∷ xs)) ≡ underWay i u + turnsWith i (x ∷ xs)) x
     (λ u e. rw (runs-rest x xs u e, e) (omega (arith, closing-slots i u (runsFrom none xs), runs-slots i xs none)))
     (λ r e.
-        rw (runs-longer x xs r e, e)
-        (omega (arith, runs-slots i xs (some (longerRun r (x .slot))), longer-slots i r (x .slot))))
+    rw (runs-longer x xs r e, e)
+    (omega (arith, runs-slots i xs (some (longerRun r (x .slot))), longer-slots i r (x .slot))))
     (λ u j e h.
-        rw (runs-new x xs u j e h, e)
-        (omega
-        ( arith
-        , closing-slots i u (runsFrom (some (newRun j (x .slot))) xs)
-        , runs-slots i xs (some (newRun j (x .slot)))
-        , new-slots i j (x .slot)
-        )))
+    rw (runs-new x xs u j e h, e)
+    (omega (
+      arith,
+      closing-slots i u (runsFrom (some (newRun j (x .slot))) xs),
+      runs-slots i xs (some (newRun j (x .slot))),
+      new-slots i j (x .slot),
+    )))
 
 -- the turns of the open slots, counted by slot
 turns-count : (opens : ℕ → Bool) (w : Plan) (i n a : ℕ)
@@ -76,11 +77,11 @@ turns-count opens w i zero a = let z : a + 0 ≡ a = omega arith in rw z (omega 
 turns-count opens w i (suc n) a =
     let z : a + suc n ≡ suc a + n = omega arith in
     let ih : turnsWith i (map (turnOf w) (keep opens (row (suc a) n))) + cnt (λ t. opens t && isIt (w t) i) (suc a)
-        ≡ cnt (λ t. opens t && isIt (w t) i) (suc a + n) = turns-count opens w i n (suc a) in
+    ≡ cnt (λ t. opens t && isIt (w t) i) (suc a + n) = turns-count opens w i n (suc a) in
     rw z
     (by-test (opens a)
-        (λ e. rw (e, when) (omega (arith, here· e)))
-        (λ e. rw (e, when) (omega (arith, here· e))))
+    (λ e. rw (e, when) (omega (arith, here· e)))
+    (λ e. rw (e, when) (omega (arith, here· e))))
   where
     here· : {b : Bool} → opens a ≡ b
         → cnt (λ t. opens t && isIt (w t) i) (suc a) ≡ cnt (λ t. opens t && isIt (w t) i) a + bit (b && isIt (w a) i)
@@ -94,15 +95,15 @@ run-lengths opens w hours i h =
     let z : 0 + h ≡ h = omega arith in
     let g : ℕ → Bool = λ t. opens t && isIt (w t) i in
     let all : cnt g h ≡ did w i h =
-        cnt-ext g (λ t. isIt (w t) i) h
-        (λ t l.
-            test-ext (g t) (isIt (w t) i)
-            (λ e. and-true (opens t) (isIt (w t) i) e .1)
-            (λ e. and-intro (opens t) (isIt (w t) i) (hours t i (Plans.works-some (w t) i e)) e)) in
-    omega
-    ( arith
-    , runs-slots i (turnsOf opens w h) none
-    , turns-count opens w i h 0
-    , ap (cnt g) z
-    , cnt-zero g
+    cnt-ext g (λ t. isIt (w t) i) h
+    (λ t l.
+    test-ext (g t) (isIt (w t) i)
+    (λ e. and-true (opens t) (isIt (w t) i) e .1)
+    (λ e. and-intro (opens t) (isIt (w t) i) (hours t i (Plans.works-some (w t) i e)) e)) in
+    omega (
+      arith,
+      runs-slots i (turnsOf opens w h) none,
+      turns-count opens w i h 0,
+      ap (cnt g) z,
+      cnt-zero g,
     )

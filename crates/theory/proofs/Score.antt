@@ -1,5 +1,5 @@
--- The score of a row of turns: each run counts one, and one more where the desk wakes with it (a turn with work behind
--- one without). So a row with runs has more score than runs. Assumes nothing.
+-- The score of a row of turns: each run counts one, and one more where the desk wakes with it (a turn with work
+-- behind one without). So a row with runs has more score than runs. Assumes nothing.
 use mathlib.Core.Path.{_≡_, refl}
 use mathlib.Core.Logic.{_⊎_, inl, inr, ⊎-elim}
 use mathlib.Core.Bool.{false, not}
@@ -68,19 +68,19 @@ runs-begun u [] = closing-length u []
 runs-begun u (x ∷ xs) =
     by-turn (λ u. length (runsFrom u (x ∷ xs)) ≡ bit (busy (holder u)) + begun (holder u) (whos (x ∷ xs))) x
     (λ u e.
-        rw (runs-rest x xs u e, e)
-        (omega (arith, closing-length u (runsFrom none xs), runs-begun none xs, at-rest (holder u))))
+    rw (runs-rest x xs u e, e)
+    (omega (arith, closing-length u (runsFrom none xs), runs-begun none xs, at-rest (holder u))))
     (λ r e.
-        rw (runs-longer x xs r e, e)
-        (omega (arith, runs-begun (some (longerRun r (x .slot))) xs, going (r .piece))))
+    rw (runs-longer x xs r e, e)
+    (omega (arith, runs-begun (some (longerRun r (x .slot))) xs, going (r .piece))))
     (λ u i e h.
-        rw (runs-new x xs u i e h, e)
-        (omega
-        ( arith
-        , closing-length u (runsFrom (some (newRun i (x .slot))) xs)
-        , runs-begun (some (newRun i (x .slot))) xs
-        , beginning u i h
-        )))
+    rw (runs-new x xs u i e h, e)
+    (omega (
+      arith,
+      closing-length u (runsFrom (some (newRun i (x .slot))) xs),
+      runs-begun (some (newRun i (x .slot))) xs,
+      beginning u i h,
+    )))
     u
 
 pub runs-are : (xs : List Turn) → length (runsFrom none xs) ≡ begun none (whos xs)

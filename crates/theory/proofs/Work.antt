@@ -1,5 +1,5 @@
--- The work on a set of entries: the slots in which the number worked on is that of an entry of the list in the set X.
--- It is the sum of what was done of each of them. Assumes nothing.
+-- The work on a set of entries: the slots in which the number worked on is that of an entry of the list in the set
+-- X. It is the sum of what was done of each of them. Assumes nothing.
 use mathlib.Core.Path.{_≡_, refl, sym, _∙_}
 use mathlib.Core.Bool.{Bool, true, false, _&&_, _||_}
 use mathlib.Core.Option.{Option, Option·some-injective}
@@ -44,8 +44,8 @@ module _ {E : Type 0} (num : E → ℕ) (X : E → Bool) where
   on-when (x ∷ L) o e m h k =
       by-mem m
       (λ p.
-          or-left (X x && isIt o (num x)) (on L o)
-          (and-intro (X x) (isIt o (num x)) (rw p at h) (rw p at k)))
+      or-left (X x && isIt o (num x)) (on L o)
+      (and-intro (X x) (isIt o (num x)) (rw p at h) (rw p at k)))
       (λ n. or-right (X x && isIt o (num x)) (on L o) (on-when L o e n h k))
 
   pub on-some : (L : List E) (o : Option ℕ) → on L o ≡ true
@@ -66,11 +66,11 @@ module _ {E : Type 0} (num : E → ℕ) (X : E → Bool) where
   on-ext L K o p to from same =
       test-ext (on L o) (on K p)
       (λ h.
-          let r = on-some L o h in
-          on-when K p (r .0) (to (r .0) (r .1) (r .2)) (r .2) (sym (same (r .0) (r .1) (r .2)) ∙ r .3))
+      let r = on-some L o h in
+      on-when K p (r .0) (to (r .0) (r .1) (r .2)) (r .2) (sym (same (r .0) (r .1) (r .2)) ∙ r .3))
       (λ h.
-          let r = on-some K p h in
-          on-when L o (r .0) (from (r .0) (r .1)) (r .2) (same (r .0) (from (r .0) (r .1)) (r .2) ∙ r .3))
+      let r = on-some K p h in
+      on-when L o (r .0) (from (r .0) (r .1)) (r .2) (same (r .0) (from (r .0) (r .1)) (r .2) ∙ r .3))
 
   -- the work on X is the sum over the entries of X
   pub work-sum : (L : List E) → Distinct num L → (w : Plan) (t : ℕ)
@@ -78,16 +78,16 @@ module _ {E : Type 0} (num : E → ℕ) (X : E → Bool) where
   unfolding on sum
   work-sum [] d w t = cnt-false (λ s. false) t (λ k h. refl)
   work-sum (x ∷ L) d w t =
-      omega
-      ( arith
-      , cnt-or (λ s. X x && isIt (w s) (num x)) (λ s. on L (w s)) t
-        (λ k h a b.
+      omega (
+        arith,
+        cnt-or (λ s. X x && isIt (w s) (num x)) (λ s. on L (w s)) t
+            (λ k h a b.
             let r = on-some L (w k) b in
             d .0 (r .0) (r .1)
             (Option·some-injective (num (r .0)) (num x)
-                ( sym (Plans.works-some (w k) (num (r .0)) (r .3))
-                ∙ Plans.works-some (w k) (num x) (and-true (X x) (isIt (w k) (num x)) a .1)
-                )))
-      , cnt-part (X x) (λ s. isIt (w s) (num x)) t
-      , work-sum L (d .1) w t
+            (sym (Plans.works-some (w k) (num (r .0)) (r .3))
+            ∙ Plans.works-some (w k) (num x) (and-true (X x) (isIt (w k) (num x)) a .1)
+            ))),
+        cnt-part (X x) (λ s. isIt (w s) (num x)) t,
+        work-sum L (d .1) w t,
       )
