@@ -10,7 +10,6 @@ pub mod Obeyed
 pub mod Hours
 pub mod Done
 pub mod Finish
-pub mod Raised
 pub mod Links
 pub mod Work
 pub mod Dominance

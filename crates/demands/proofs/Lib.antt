@@ -1,0 +1,8 @@
+-- The theorems, by demand.
+pub mod Accepting
+pub mod Rings
+pub mod Finishes
+pub mod EachSlot
+pub mod Starts
+pub mod OneDesk
+pub mod Best
