@@ -5,13 +5,12 @@ use mathlib.Core.Path.{_≡_, sym, ap, _∙_}
 use mathlib.Core.Bool.{Bool, true}
 use mathlib.Core.Option.{some}
 use mathlib.Core.List.{List, _∷_}
-use mathlib.Core.List.{List·Memᴰ·tail as there}
 use Prim.Native.Nat.{ℕ, _≤_}
+use Rattle.rules.specs.Words.{isIt}
 use Rattle.laws.proofs.Words.{by-test}
 use Rattle.theory.proofs.Cases.{clash}
 use Rattle.theory.proofs.Lists.{_∈_, by-mem, Distinct}
 use Rattle.theory.proofs.Plans as Plans
-use Rattle.rules.specs.Words.{isIt}
 use Rattle.theory.proofs.Plans.{Plan, did, without}
 
 module _ {E : Type 0} (num ready dur : E → ℕ) (opens : ℕ → Bool) where

@@ -17,8 +17,7 @@ use Rattle.rules.specs.Words.{when, orElse, sum}
 use Rattle.rules.specs.Entries.{Entry}
 use Rattle.rules.specs.Blocks.{Block, blockOf, gathered, readyFirst, placed, inOrder, blockEnd, gather, cutInOrder}
 use Rattle.rules.specs.Blocks.{cut, others, inBlock, inBlocks, setWorked}
-use Rattle.laws.proofs.Words.{by-test, and-true, or-false}
-use Rattle.theory.proofs.Cases.{by-or}
+use Rattle.laws.proofs.Words.{by-test, and-true, or-false, or-true}
 use Rattle.theory.proofs.Lists.{_∈_, by-mem, Distinct, sum-snoc, distinct-snoc}
 use Rattle.theory.proofs.Order.{Climbs, insert, sorted, mem-sorted, sorted-mem, sorted-distinct}
 use Rattle.theory.proofs.Order.{sorted-length, sorted-climbs}
@@ -53,11 +52,12 @@ in-order (e ∷ es) = placed-insert e (inOrder es) ∙ ap (insert waits e) (in-o
 ready-front : (x y : Entry) → waits y x ≡ true → x .ready ≤ y .ready
 unfolding readyFirst
 ready-front x y h =
-    by-or (ltb (x .ready) (y .ready)) (eqb (x .ready) (y .ready) && ltb (x .number) (y .number)) h
+    ⊎-elim
     (λ e. omega (arith, ltb-true (x .ready) (y .ready) e))
     (λ e.
     let k = and-true (eqb (x .ready) (y .ready)) (ltb (x .number) (y .number)) e in
     omega (arith, eqb-true (x .ready) (y .ready) (k .0)))
+    (or-true (ltb (x .ready) (y .ready)) (eqb (x .ready) (y .ready) && ltb (x .number) (y .number)) h)
 
 ready-behind : (x y : Entry) → waits y x ≡ false → y .ready ≤ x .ready
 unfolding readyFirst

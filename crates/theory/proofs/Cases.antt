@@ -13,10 +13,6 @@ by-le a b small large = by-test (leb a b) (λ e. small (leb-true a b e)) (λ e. 
 pub by-eq : {P : Type 0} (a b : ℕ) → (a ≡ b → P) → ((a ≡ b → ⊥) → P) → P
 by-eq a b same other = by-test (eqb a b) (λ e. same (eqb-true a b e)) (λ e. other (eqb-false a b e))
 
-pub by-or : {P : Type 0} (a b : Bool) → (a || b) ≡ true → (a ≡ true → P) → (b ≡ true → P) → P
-by-or true b e first second = first refl
-by-or false b e first second = second e
-
 -- a test cannot have both outcomes
 pub clash : {P : Type 0} {b : Bool} → b ≡ true → b ≡ false → P
 clash p q = true-or-false (sym p ∙ q)

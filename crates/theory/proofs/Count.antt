@@ -80,10 +80,10 @@ cnt-true (suc t) = omega (arith, cnt-true t)
 
 pub cnt-false : (f : ℕ → Bool) (t : ℕ) → ((k : ℕ) → k < t → f k ≡ false) → cnt f t ≡ 0
 unfolding cnt bit
-cnt-false f zero none· = refl
-cnt-false f (suc t) none· =
-    let ih : cnt f t ≡ 0 = cnt-false f t (λ k h. none· k (omega arith)) in
-    rw (none· t (omega arith)) (omega arith)
+cnt-false f zero misses = refl
+cnt-false f (suc t) misses =
+    let ih : cnt f t ≡ 0 = cnt-false f t (λ k h. misses k (omega arith)) in
+    rw (misses t (omega arith)) (omega arith)
 
 pub cnt-mono : (f : ℕ → Bool) (s t : ℕ) → s ≤ t → cnt f s ≤ cnt f t
 cnt-mono f s t h =

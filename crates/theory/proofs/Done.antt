@@ -7,11 +7,11 @@ use mathlib.Core.List.{List, [], _∷_}
 use mathlib.Core.List.{List·Memᴰ·head as here, List·Memᴰ·tail as there}
 use Prim.Native.Nat.{ℕ, _+_, _≤_}
 use native.Mathlib.Omega.{arith}
+use Rattle.rules.specs.Words.{isIt}
 use Rattle.theory.proofs.Cases.{by-le}
 use Rattle.theory.proofs.Count.{cnt, cnt-mono, cnt-false, cnt-ext}
 use Rattle.theory.proofs.Lists.{_∈_, by-mem, Distinct, sumOf, sum-cons}
 use Rattle.theory.proofs.Order.{Urgency, sorted, sorted-sum, sorted-mem, mem-sorted, sorted-distinct}
-use Rattle.rules.specs.Words.{isIt}
 use Rattle.theory.proofs.Plans.{Plan, busy, did}
 use Rattle.theory.proofs.Layers as Layers
 use Rattle.theory.proofs.Hours.{cnt-always}

@@ -11,9 +11,9 @@ use lib.Signed.{ltZ, leZ}
 use borrow.Author.Tests.{ltb-true, lt-ltb}
 use Rattle.rules.specs.Entries.{Entry}
 use Rattle.rules.specs.Blocks.{costsLess}
-use Rattle.laws.proofs.Words.{and-true, and-intro, or-left, or-right}
+use Rattle.laws.proofs.Words.{and-true, and-intro, or-left, or-right, or-true}
 use Rattle.laws.proofs.Signed.{up, dn, _≼_, _≺_, ltZ-lt, leZ-le, lt-ltZ, le-leZ}
-use Rattle.theory.proofs.Cases.{by-le, by-eq, by-or, clash}
+use Rattle.theory.proofs.Cases.{by-le, by-eq, clash}
 use Rattle.theory.proofs.Order.{Urgency}
 
 module _ {E : Type 0} (latest : E → ℤ) (num : E → ℕ) where
@@ -27,11 +27,12 @@ module _ {E : Type 0} (latest : E → ℤ) (num : E → ℕ) where
   read : (a b : E) → earlier a b ≡ true → Earlier a b
   unfolding earlier
   read a b h =
-      by-or (ltZ (latest a) (latest b)) (leZ (latest a) (latest b) && ltb (num a) (num b)) h
+      ⊎-elim
       (λ e. inl (ltZ-lt (latest a) (latest b) e))
       (λ e.
       let k = and-true (leZ (latest a) (latest b)) (ltb (num a) (num b)) e in
       inr (leZ-le (latest a) (latest b) (k .0), ltb-true (num a) (num b) (k .1)))
+      (or-true (ltZ (latest a) (latest b)) (leZ (latest a) (latest b) && ltb (num a) (num b)) h)
 
   write : (a b : E) → Earlier a b → earlier a b ≡ true
   unfolding earlier

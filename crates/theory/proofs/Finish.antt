@@ -8,11 +8,11 @@ use native.Mathlib.Omega.{arith}
 use native.Mathlib.Nat.{le-antisymm}
 use lib.Dec.{ltb}
 use borrow.Author.Tests.{ltb-true, ltb-false, lt-ltb, le-ltb}
+use Rattle.rules.specs.Words.{isIt}
 use Rattle.laws.proofs.Words.{by-test}
 use Rattle.theory.proofs.Cases.{by-le, clash}
 use Rattle.theory.proofs.Count.{cnt, cnt-zero, cnt-hit, cnt-miss, cnt-mono, cnt-ext, cnt-true, cnt-le}
 use Rattle.theory.proofs.Plans as Plans
-use Rattle.rules.specs.Words.{isIt}
 use Rattle.theory.proofs.Plans.{Plan, did}
 
 -- c is the first moment at which i has had d slots

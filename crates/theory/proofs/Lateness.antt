@@ -13,13 +13,13 @@ use lib.Dec.{ltb}
 use lib.IntN.{ℤ, pos, _-ℤ_}
 use lib.Signed.{leZ}
 use borrow.Author.Tests.{ltb-true, ltb-false, le-leb}
+use Rattle.rules.specs.Words.{isIt, greatestZ, worstOf}
 use Rattle.laws.proofs.Words.{and-true, mem-map, sum-le, sum-lt}
+use Rattle.laws.proofs.Signed.{minus, leZ-le, le-leZ, greatestZ-start, greatestZ-mem, greatestZ-least}
 use Rattle.theory.proofs.Cases.{by-le}
 use Rattle.theory.proofs.Count.{cnt, cnt-mono}
 use Rattle.theory.proofs.Lists.{_∈_, by-mem, map-mem, find, Distinct}
 use Rattle.theory.proofs.Order.{Urgency, UpClosed}
-use Rattle.laws.proofs.Signed.{minus, leZ-le, le-leZ, greatestZ-start, greatestZ-mem, greatestZ-least}
-use Rattle.rules.specs.Words.{isIt, greatestZ, worstOf}
 use Rattle.theory.proofs.Plans.{Plan, did}
 use Rattle.theory.proofs.Allowed.{Allowed}
 use Rattle.theory.proofs.Rule.{Obeys}

@@ -10,11 +10,11 @@ use Prim.Native.Nat.{ℕ, _+_, _≤_, _<_, min}
 use native.Mathlib.Omega.{arith}
 use lib.Dec.{leb, ltb}
 use borrow.Author.Tests.{leb-true, le-leb, lt-ltb, ltb-true, not-true}
+use Rattle.rules.specs.Words.{isIt}
 use Rattle.laws.proofs.Words.{by-test, and-true}
 use Rattle.theory.proofs.Cases.{clash, or-rest}
 use Rattle.theory.proofs.Count.{cnt, cnt-ext, cnt-gain, cnt-or, firstN, cnt-firstN}
 use Rattle.theory.proofs.Lists.{_∈_}
-use Rattle.rules.specs.Words.{isIt}
 use Rattle.theory.proofs.Plans.{Plan, busy, did, some-works, other-works, none-works, some-busy, busy-none}
 
 module _ {E : Type 0} (num ready dur : E → ℕ) (opens : ℕ → Bool) where

@@ -8,13 +8,13 @@ use mathlib.Core.List.{List·Memᴰ·head as here, List·Memᴰ·tail as there}
 use Prim.Native.Nat.{ℕ, _≤_, _<_}
 use lib.Dec.{ltb}
 use borrow.Author.Tests.{lt-ltb, ltb-true}
+use Rattle.rules.specs.Words.{isIt}
 use Rattle.laws.proofs.Words.{by-test, and-true, and-intro}
 use Rattle.theory.proofs.Cases.{clash, test-ext}
 use Rattle.theory.proofs.Count.{firstN-unique}
 use Rattle.theory.proofs.Lists.{_∈_, by-mem, Distinct, same-number}
 use Rattle.theory.proofs.Order.{Ordered}
 use Rattle.theory.proofs.Plans as Plans
-use Rattle.rules.specs.Words.{isIt}
 use Rattle.theory.proofs.Plans.{Plan, did, without}
 use Rattle.theory.proofs.Layers as Layers
 
@@ -105,8 +105,8 @@ module _ {E : Type 0} (num ready dur : E → ℕ) (opens : ℕ → Bool) where
           c : chance t ≡ true
           c = and-true (chance t) (ltb (did w (num x) t) (dur x)) h .0
 
-          here· : Candidate w t x
-          here· = record {
+          waits : Candidate w t x
+          waits = record {
             hour = Layers.chance-open num ready dur opens x v t c;
             ripe = Layers.chance-ready num ready dur opens x v t c;
             left =
@@ -123,7 +123,7 @@ module _ {E : Type 0} (num ready dur : E → ℕ) (opens : ℕ → Bool) where
               (Plans.works-busy (v t) (num e)
               (Plans.without-other (num x) w t (num e) (d .0 e n) ∙ Plans.some-works (w t) (num e) q))
               (Layers.chance-free num ready dur opens x v t c))
-          go (rest q n) = absurd (n x (here refl) here·)
+          go (rest q n) = absurd (n x (here refl) waits)
 
       lowest : (t : ℕ) → w t ≡ Layers.layer num ready dur opens x v t
       unfolding Layers.takes

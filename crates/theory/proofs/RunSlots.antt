@@ -80,12 +80,12 @@ turns-count opens w i (suc n) a =
     ≡ cnt (λ t. opens t && isIt (w t) i) (suc a + n) = turns-count opens w i n (suc a) in
     rw z
     (by-test (opens a)
-    (λ e. rw (e, when) (omega (arith, here· e)))
-    (λ e. rw (e, when) (omega (arith, here· e))))
+    (λ e. rw (e, when) (omega (arith, one-more e)))
+    (λ e. rw (e, when) (omega (arith, one-more e))))
   where
-    here· : {b : Bool} → opens a ≡ b
+    one-more : {b : Bool} → opens a ≡ b
         → cnt (λ t. opens t && isIt (w t) i) (suc a) ≡ cnt (λ t. opens t && isIt (w t) i) a + bit (b && isIt (w a) i)
-    here· {b} e = rw (← e) (cnt-suc (λ t. opens t && isIt (w t) i) a)
+    one-more {b} e = rw (← e) (cnt-suc (λ t. opens t && isIt (w t) i) a)
 
 -- THE RUN LENGTHS OF A PIECE add to the slots worked on it
 pub run-lengths : (opens : ℕ → Bool) (w : Plan) → ((t i : ℕ) → w t ≡ some i → opens t ≡ true) → (i h : ℕ)
