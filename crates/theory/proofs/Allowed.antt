@@ -4,7 +4,7 @@
 use mathlib.Core.Path.{_≡_, sym, ap, _∙_}
 use mathlib.Core.Bool.{Bool, true}
 use mathlib.Core.Option.{some}
-use mathlib.Core.List.{List, _∷_}
+use mathlib.Core.List.{List, _∷_, List·Memᴰ·tail as there}
 use Prim.Native.Nat.{ℕ, _≤_}
 use Rattle.rules.specs.Words.{isIt}
 use Rattle.laws.proofs.Words.{by-test}

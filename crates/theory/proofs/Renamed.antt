@@ -1,5 +1,5 @@
--- The rule looks at an entry's number, ready moment and duration and at who is sooner, and at nothing else of it: entries
--- written in another way, as records for instance, have the same plan. Assumes nothing.
+-- The rule looks at an entry's number, ready moment and duration and at who is sooner, and at nothing else of it:
+-- entries written in another way, as records for instance, have the same plan. Assumes nothing.
 use mathlib.Core.Path.{_≡_, sym, ap, _∙_}
 use mathlib.Core.Bool.{Bool, true}
 use mathlib.Core.Option.{some}
