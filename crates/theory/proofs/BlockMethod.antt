@@ -33,7 +33,7 @@ use Rattle.theory.proofs.SetAside.{others-shorter, mem-others, others-d
 use Rattle.theory.proofs.OneBlock.{readyAt, lasting, ObeysFor, Sound, block-obeys, block-over}
 
 -- the order by ready moment, then number, is a sorting
-abbrev waits : Entry → Entry → Bool
+abbrev pub waits : Entry → Entry → Bool
 waits f e = readyFirst e f
 
 placed-insert : (e : Entry) (es : List Entry) → placed e es ≡ insert waits e es
@@ -44,12 +44,12 @@ placed-insert e (f ∷ es) =
     (λ h. rw (h, when, insert))
     (λ h. rw (h, when, insert) (ap (λ l. f ∷ l) (placed-insert e es)))
 
-in-order : (es : List Entry) → inOrder es ≡ sorted waits es
+pub in-order : (es : List Entry) → inOrder es ≡ sorted waits es
 unfolding inOrder sorted
 in-order [] = refl
 in-order (e ∷ es) = placed-insert e (inOrder es) ∙ ap (insert waits e) (in-order es)
 
-ready-front : (x y : Entry) → waits y x ≡ true → x .ready ≤ y .ready
+pub ready-front : (x y : Entry) → waits y x ≡ true → x .ready ≤ y .ready
 unfolding readyFirst
 ready-front x y h =
     ⊎-elim
@@ -59,7 +59,7 @@ ready-front x y h =
     omega (arith, eqb-true (x .ready) (y .ready) (k .0)))
     (or-true (ltb (x .ready) (y .ready)) (eqb (x .ready) (y .ready) && ltb (x .number) (y .number)) h)
 
-ready-behind : (x y : Entry) → waits y x ≡ false → y .ready ≤ x .ready
+pub ready-behind : (x y : Entry) → waits y x ≡ false → y .ready ≤ x .ready
 unfolding readyFirst
 ready-behind x y h =
     ltb-false (x .ready) (y .ready)

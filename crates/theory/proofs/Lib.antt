@@ -35,3 +35,4 @@ pub mod EntryOrder
 pub mod SetAside
 pub mod OneBlock
 pub mod BlockMethod
+pub mod BlockShape

@@ -19,7 +19,7 @@ use Rattle.theory.proofs.Plans as Plans
 use Rattle.theory.proofs.Plans.{Plan, did}
 use Rattle.theory.proofs.Finish.{Finish, finish-last, finish-over}
 use Rattle.theory.proofs.Turns.{turnsOf}
-use Rattle.theory.proofs.RunTruth.{Under, runsIn, by-slot, TrueRun, runs-good}
+use Rattle.theory.proofs.RunTruth.{Under, closing-all, runsIn, by-slot, TrueRun, runs-good}
 
 -- each run is over before the next begins
 abbrev pub Rising : List Run → Type 0
@@ -136,6 +136,23 @@ module _ (opens : ℕ → Bool) (w : Plan) where
       wider none rs t i c = c
       wider (some v) rs t i c = (c .0, there (c .1), c .2, c .3, c .4)
 
+  runs-bounded : (n a : ℕ) (u : Option Run) → Past u a → (r : Run) → r ∈ runsIn opens w u a n → r .until ≤ a + n
+  runs-bounded =
+      by-slot opens w (λ u a n rs. Past u a → (r : Run) → r ∈ rs → r .until ≤ a + n)
+      (λ u a p. closing-all (λ r. r .until ≤ a + 0) u [] (ended u a (a + 0) p (omega arith)) (λ r m. elim m [ ]))
+      (λ u a n rs o ih p r m. omega (arith, ih (past-on u a p) r m))
+      (λ u a n rs o e ih p.
+      closing-all (λ r. r .until ≤ a + suc n) u rs (ended u a (a + suc n) p (omega arith))
+      (λ r m. omega (arith, ih tt r m)))
+      (λ r a n rs o e ih p s m. omega (arith, ih (omega (arith, p .0), omega arith) s m))
+      (λ u i a n rs o e ih p.
+      closing-all (λ r. r .until ≤ a + suc n) u rs (ended u a (a + suc n) p (omega arith))
+      (λ r m. omega (arith, ih (omega arith, omega arith) r m)))
+    where
+      ended : (u : Option Run) (a b : ℕ) → Past u a → a ≤ b → Under (λ r. r .until ≤ b) u
+      ended none a b p h = tt
+      ended (some v) a b p h = omega (arith, p .1)
+
   -- the runs of the open slots before h
   module _ (h : ℕ) where
     abbrev rs : List Run
@@ -148,6 +165,10 @@ module _ (opens : ℕ → Bool) (w : Plan) where
     pub runs-rising : Rising rs
     unfolding below
     runs-rising = runs-rise h 0 none tt .0
+
+    pub runs-within : (r : Run) → r ∈ rs → r .until ≤ h
+    unfolding below
+    runs-within r m = omega (arith, runs-bounded h 0 none tt r m)
 
     pub runs-covering : (t i : ℕ) → t < h → opens t ≡ true → w t ≡ some i → Covered t i rs
     unfolding below
