@@ -6,3 +6,5 @@ pub mod EachSlot
 pub mod Starts
 pub mod OneDesk
 pub mod Best
+pub mod Runs
+pub mod Answers

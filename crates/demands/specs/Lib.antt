@@ -2,3 +2,4 @@
 pub mod Accepted
 pub mod EverySlot
 pub mod Allowed
+pub mod Promises

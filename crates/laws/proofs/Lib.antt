@@ -14,3 +14,4 @@ pub mod Raised
 pub mod Slots
 pub mod Progress
 pub mod Finishing
+pub mod Bytes
