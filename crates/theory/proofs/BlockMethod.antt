@@ -29,7 +29,7 @@ use Rattle.theory.proofs.Obeyed.{obeys-members, obeys-ext, obeys-layers
 use Rattle.theory.proofs.Locality.{beside}
 use Rattle.theory.proofs.Gathered.{chained-one, chained-more}
 use Rattle.theory.proofs.EntryOrder.{number, urgent, entry-urgency}
-use Rattle.theory.proofs.SetAside.{others-shorter, mem-others, others-distinct}
+use Rattle.theory.proofs.SetAside.{LinksAhead, others-shorter, mem-others, others-distinct}
 use Rattle.theory.proofs.OneBlock.{readyAt, lasting, ObeysFor, Sound, block-obeys, block-over}
 
 -- the order by ready moment, then number, is a sorting
@@ -103,7 +103,7 @@ module _ (opens : ℕ → Bool) where
 -- the blocks of a set that is gathered, where all sets shorter than N entries are planned by the rule
 module _ (follows : ℕ → ℕ → Bool) (opens : ℕ → Bool) (endOf : ℕ → ℕ → ℕ) (H : Hours opens endOf)
     (planned : List Entry → Plan) (all : List Entry)
-    (links : (e f : Entry) → e ∈ all → f ∈ all → follows (e .number) (f .number) ≡ true → urgent e f ≡ true)
+    (links : LinksAhead follows all)
     (shorter : (es : List Entry) → Distinct number es → length es < length all → ((e : Entry) → e ∈ es → e ∈ all)
     → ObeysFor opens es (planned es)) where
   abbrev cutWorks : List Block → Plan
@@ -197,11 +197,7 @@ module _ (follows : ℕ → ℕ → Bool) (opens : ℕ → Bool) (endOf : ℕ �
 
 -- THE BLOCK METHOD OBEYS THE RULE, with enough cuttings
 module _ (follows : ℕ → ℕ → Bool) (opens : ℕ → Bool) (endOf : ℕ → ℕ → ℕ) (H : Hours opens endOf) where
-  abbrev LinksAhead : List Entry → Type 0
-  LinksAhead es =
-      (e f : Entry) → e ∈ es → f ∈ es → follows (e .number) (f .number) ≡ true → urgent e f ≡ true
-
-  pub set-obeys : (n : ℕ) (es : List Entry) → length es ≤ n → Distinct number es → LinksAhead es
+  pub set-obeys : (n : ℕ) (es : List Entry) → length es ≤ n → Distinct number es → LinksAhead follows es
       → ObeysFor opens es (setWorked follows opens endOf n es)
   unfolding setWorked
   set-obeys zero [] short d links = λ t. rest refl (λ f m k. elim m [ ])
@@ -212,14 +208,14 @@ module _ (follows : ℕ → ℕ → Bool) (opens : ℕ → Bool) (endOf : ℕ �
       d
 
   -- AGREEMENT with the plan by layers
-  pub set-layers : (n : ℕ) (es : List Entry) → length es ≤ n → Distinct number es → LinksAhead es → (t : ℕ)
+  pub set-layers : (n : ℕ) (es : List Entry) → length es ≤ n → Distinct number es → LinksAhead follows es → (t : ℕ)
       → setWorked follows opens endOf n es t ≡ Layers.layers number readyAt lasting opens (sorted urgent es) t
   set-layers n es short d links t =
       obeys-layers number readyAt lasting opens urgent entry-urgency es d (setWorked follows opens endOf n es)
       (set-obeys n es short d links) t
 
   -- and with every plan that obeys the rule
-  pub set-agrees : (n : ℕ) (es : List Entry) → length es ≤ n → Distinct number es → LinksAhead es → (w : Plan)
+  pub set-agrees : (n : ℕ) (es : List Entry) → length es ≤ n → Distinct number es → LinksAhead follows es → (w : Plan)
       → ObeysFor opens es w → (t : ℕ) → setWorked follows opens endOf n es t ≡ w t
   set-agrees n es short d links w rule t =
       obeys-unique number readyAt lasting opens urgent entry-urgency es d (setWorked follows opens endOf n es) w

@@ -23,7 +23,7 @@ use Rattle.theory.proofs.Obeyed.{layer-obeys, obeys-members, obeys-ext,
 use Rattle.theory.proofs.Locality.{orElse-some, orElse-none}
 use Rattle.theory.proofs.Gathered.{Chained, block-busy}
 use Rattle.theory.proofs.EntryOrder.{number, urgent}
-use Rattle.theory.proofs.SetAside.{Last, set-aside, others-mem, mem-others, others-distinct}
+use Rattle.theory.proofs.SetAside.{LinksAhead, Last, set-aside, others-mem, mem-others, others-distinct}
 
 abbrev pub readyAt : Entry → ℕ
 readyAt e = e .ready
@@ -45,8 +45,7 @@ pub record Sound (opens : ℕ → Bool) (B : Block) : Type 0 where
 
 module _ (follows : ℕ → ℕ → Bool) (opens : ℕ → Bool) (endOf : ℕ → ℕ → ℕ) (H : Hours opens endOf)
     (planned : List Entry → Plan) (B : Block) (S : Sound opens B)
-    (links : (e f : Entry) → e ∈ B .members → f ∈ B .members → follows (e .number) (f .number) ≡ true
-    → urgent e f ≡ true)
+    (links : LinksAhead follows (B .members))
     (rest : (z : Entry) → z ∈ B .members → ObeysFor opens (others B z) (planned (others B z))) where
   -- who the block works on
   abbrev pub works : Plan

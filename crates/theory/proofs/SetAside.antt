@@ -19,6 +19,11 @@ use Rattle.theory.proofs.Cases.{by-eq}
 use Rattle.theory.proofs.Lists.{_∈_, by-mem, Distinct, same-number}
 use Rattle.theory.proofs.EntryOrder.{number, urgent, entry-urgency}
 
+-- a piece is sooner than each that follows it by a direct link
+abbrev pub LinksAhead : (ℕ → ℕ → Bool) → List Entry → Type 0
+LinksAhead follows es =
+    (e f : Entry) → e ∈ es → f ∈ es → follows (e .number) (f .number) ≡ true → urgent e f ≡ true
+
 -- z is the least urgent of the list
 pub record Last (es : List Entry) (z : Entry) : Type 0 where
   pub member : z ∈ es
@@ -101,8 +106,7 @@ keep-distinct p (e ∷ es) d =
     (λ h. rw (h, when) (λ f m. d .0 f (mem-keep p es f m .0), keep-distinct p es (d .1)))
     (λ h. rw (h, when) (keep-distinct p es (d .1)))
 
-module _ (follows : ℕ → ℕ → Bool) (es : List Entry) (d : Distinct number es)
-    (links : (e f : Entry) → e ∈ es → f ∈ es → follows (e .number) (f .number) ≡ true → urgent e f ≡ true) where
+module _ (follows : ℕ → ℕ → Bool) (es : List Entry) (d : Distinct number es) (links : LinksAhead follows es) where
   abbrev free : Entry → Bool
   free e = not (oneOf (λ f. follows (e .number) (f .number)) es)
 
@@ -137,8 +141,7 @@ module _ (follows : ℕ → ℕ → Bool) (es : List Entry) (d : Distinct number
 
 -- who is set aside of a block, and the others
 module _ (follows : ℕ → ℕ → Bool) (B : Block) (d : Distinct number (B .members))
-    (links : (e f : Entry) → e ∈ B .members → f ∈ B .members → follows (e .number) (f .number) ≡ true
-    → urgent e f ≡ true) where
+    (links : LinksAhead follows (B .members)) where
   pub set-aside : (e : Entry) → e ∈ B .members → (z : Entry) × (setAside follows B ≡ some z) × Last (B .members) z
   unfolding setAside
   set-aside e m =
