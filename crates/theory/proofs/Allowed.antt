@@ -1,18 +1,17 @@
--- The plans that are allowed for a list of entries, whatever rule made them: work on entries of the list alone, in open
--- slots, not before an entry is ready, and never more of it than it lasts. With one entry taken out of the list and
--- of the plan, an allowed plan stays allowed. Assumes nothing.
-use mathlib.Core.Path.{_≡_, refl, sym, ap, _∙_}
-use mathlib.Core.Bool.{Bool, true, false}
-use mathlib.Core.Option.{Option, none, some, Option·some-injective}
-use mathlib.Core.List.{List, [], _∷_}
-use mathlib.Core.List.{List·Memᴰ·head as here, List·Memᴰ·tail as there}
+-- The plans that are allowed for a list of entries, whatever rule made them: work on entries of the list alone, in
+-- open slots, not before an entry is ready, and never more of it than it lasts. With one entry taken out of the list
+-- and of the plan, an allowed plan stays allowed. Assumes nothing.
+use mathlib.Core.Path.{_≡_, sym, ap, _∙_}
+use mathlib.Core.Bool.{Bool, true}
+use mathlib.Core.Option.{some}
+use mathlib.Core.List.{List, _∷_, List·Memᴰ·tail as there}
 use Prim.Native.Nat.{ℕ, _≤_}
+use Rattle.rules.specs.Words.{isIt}
 use Rattle.laws.proofs.Words.{by-test}
 use Rattle.theory.proofs.Cases.{clash}
 use Rattle.theory.proofs.Lists.{_∈_, by-mem, Distinct}
 use Rattle.theory.proofs.Plans as Plans
-use Rattle.rules.specs.Words.{isIt}
-use Rattle.theory.proofs.Plans.{Plan, busy, did, without}
+use Rattle.theory.proofs.Plans.{Plan, did, without}
 
 module _ {E : Type 0} (num ready dur : E → ℕ) (opens : ℕ → Bool) where
   pub record Allowed (L : List E) (q : Plan) : Type 0 where

@@ -1,5 +1,5 @@
--- Going by cases: a number is at most another or above it, the same or not; and a few facts of tests beside those of the
--- shared words. Assumes nothing.
+-- Going by cases: a number is at most another or above it, the same or not; and a few facts of tests beside those of
+-- the shared words. Assumes nothing.
 use mathlib.Core.Path.{_≡_, refl, sym, _∙_}
 use mathlib.Core.Bool.{Bool, true, false, _||_}
 use Prim.Native.Nat.{ℕ, _≤_, _<_}
@@ -12,10 +12,6 @@ by-le a b small large = by-test (leb a b) (λ e. small (leb-true a b e)) (λ e. 
 
 pub by-eq : {P : Type 0} (a b : ℕ) → (a ≡ b → P) → ((a ≡ b → ⊥) → P) → P
 by-eq a b same other = by-test (eqb a b) (λ e. same (eqb-true a b e)) (λ e. other (eqb-false a b e))
-
-pub by-or : {P : Type 0} (a b : Bool) → (a || b) ≡ true → (a ≡ true → P) → (b ≡ true → P) → P
-by-or true b e first second = first refl
-by-or false b e first second = second e
 
 -- a test cannot have both outcomes
 pub clash : {P : Type 0} {b : Bool} → b ≡ true → b ≡ false → P

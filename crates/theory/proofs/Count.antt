@@ -1,10 +1,10 @@
 -- Counting slots: `cnt f t` is the number of slots before moment t that pass the test f. Everything a plan does is
 -- said by such counts, so the laws here are the arithmetic of the whole crate. Assumes nothing.
-use mathlib.Core.Path.{_≡_, refl, sym, ap, _∙_}
-use mathlib.Core.Bool.{Bool, true, false, not, _&&_, _||_}
+use mathlib.Core.Path.{_≡_, refl}
+use mathlib.Core.Bool.{Bool, true, false, _&&_, _||_}
 use Prim.Native.Nat.{ℕ, zero, suc, _+_, _-_, _≤_, _<_, min}
 use native.Mathlib.Omega.{arith}
-use lib.Dec.{leb, ltb}
+use lib.Dec.{ltb}
 use borrow.Author.Tests.{ltb-true, ltb-false, lt-ltb, le-ltb}
 use Rattle.laws.proofs.Words.{by-test}
 use Rattle.theory.proofs.Cases.{by-le, clash}
@@ -80,10 +80,10 @@ cnt-true (suc t) = omega (arith, cnt-true t)
 
 pub cnt-false : (f : ℕ → Bool) (t : ℕ) → ((k : ℕ) → k < t → f k ≡ false) → cnt f t ≡ 0
 unfolding cnt bit
-cnt-false f zero none· = refl
-cnt-false f (suc t) none· =
-    let ih : cnt f t ≡ 0 = cnt-false f t (λ k h. none· k (omega arith)) in
-    rw (none· t (omega arith)) (omega arith)
+cnt-false f zero misses = refl
+cnt-false f (suc t) misses =
+    let ih : cnt f t ≡ 0 = cnt-false f t (λ k h. misses k (omega arith)) in
+    rw (misses t (omega arith)) (omega arith)
 
 pub cnt-mono : (f : ℕ → Bool) (s t : ℕ) → s ≤ t → cnt f s ≤ cnt f t
 cnt-mono f s t h =

@@ -1,20 +1,21 @@
--- Dominance: no allowed plan has worked more, by any moment, on the entries that are at least as urgent as some bound.
--- For all entries together any plan by layers does; a set that with each entry has all sooner ones is the list without
--- some of its least urgent entries, and they change nothing for the others. Assumes nothing.
+-- Dominance: no allowed plan has worked more, by any moment, on the entries that are at least as urgent as some
+-- bound. For all entries together any plan by layers does; a set that with each entry has all sooner ones is the
+-- list without some of its least urgent entries, and they change nothing for the others. Assumes nothing.
 use mathlib.Core.Path.{_≡_, refl, sym, ap, _∙_}
-use mathlib.Core.Bool.{Bool, true, false, _||_}
-use mathlib.Core.Option.{Option, none, some}
+use mathlib.Core.Bool.{Bool, true, false}
+use mathlib.Core.Option.{Option, some}
 use mathlib.Core.List.{List, [], _∷_}
 use mathlib.Core.List.{List·Memᴰ·head as here, List·Memᴰ·tail as there}
-use Prim.Native.Nat.{ℕ, _+_, _≤_, _<_, min}
+use Prim.Native.Nat.{ℕ, _≤_}
 use native.Mathlib.Omega.{arith}
+use Rattle.rules.specs.Words.{oneOf, isIt}
 use Rattle.laws.proofs.Words.{by-test}
 use Rattle.theory.proofs.Cases.{by-le, clash}
-use Rattle.theory.proofs.Count.{cnt, cnt-gain, cnt-imp, cnt-ext, cnt-or, cnt-false}
+use Rattle.theory.proofs.Count.{cnt, cnt-gain, cnt-imp, cnt-ext, cnt-false}
 use Rattle.theory.proofs.Lists.{_∈_, by-mem, Distinct}
-use Rattle.theory.proofs.Order.{Urgency, Ordered, UpClosed, sorted, sorted-mem, mem-sorted, sorted-distinct, sorted-ordered}
+use Rattle.theory.proofs.Order.{Urgency, Ordered, UpClosed, sorted, sorted-mem, mem-sorted, sorted-distinct}
+use Rattle.theory.proofs.Order.{sorted-ordered}
 use Rattle.theory.proofs.Plans as Plans
-use Rattle.rules.specs.Words.{isIt}
 use Rattle.theory.proofs.Plans.{Plan, busy, did, without}
 use Rattle.theory.proofs.Layers as Layers
 use Rattle.theory.proofs.Allowed.{Allowed, allowed-without, allowed-members}
@@ -86,7 +87,7 @@ module _ {E : Type 0} (num ready dur : E → ℕ) (opens : ℕ → Bool) where
   pub layers-dominate : (sooner : E → E → Bool) (L : List E) → Distinct num L → Ordered sooner L → (X : E → Bool)
       → UpClosed sooner L X → (q : Plan) → Allowed num ready dur opens L q → (t : ℕ)
       → cnt (λ s. on num X L (q s)) t ≤ cnt (λ s. on num X L (layers L s)) t
-  unfolding on Layers.layers
+  unfolding on oneOf Layers.layers
   layers-dominate sooner [] d o X up q a t = omega arith
   layers-dominate sooner (x ∷ L) d o X up q a t =
       by-test (X x)

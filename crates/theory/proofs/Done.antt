@@ -1,17 +1,17 @@
 -- Every entry is finished at last: once all are ready and as many slots have been open as their durations together,
--- each entry has its whole duration. Where the desk is always open that is the latest ready moment plus the durations.
--- Assumes nothing.
-use mathlib.Core.Path.{_≡_, refl, sym, ap, _∙_}
-use mathlib.Core.Bool.{Bool, true, false}
+-- each entry has its whole duration. Where the desk is always open that is the latest ready moment plus the
+-- durations. Assumes nothing.
+use mathlib.Core.Path.{_≡_, refl, ap, _∙_}
+use mathlib.Core.Bool.{Bool, true}
 use mathlib.Core.List.{List, [], _∷_}
 use mathlib.Core.List.{List·Memᴰ·head as here, List·Memᴰ·tail as there}
-use Prim.Native.Nat.{ℕ, _+_, _≤_, _<_, min}
+use Prim.Native.Nat.{ℕ, _+_, _≤_}
 use native.Mathlib.Omega.{arith}
+use Rattle.rules.specs.Words.{isIt}
 use Rattle.theory.proofs.Cases.{by-le}
 use Rattle.theory.proofs.Count.{cnt, cnt-mono, cnt-false, cnt-ext}
 use Rattle.theory.proofs.Lists.{_∈_, by-mem, Distinct, sumOf, sum-cons}
 use Rattle.theory.proofs.Order.{Urgency, sorted, sorted-sum, sorted-mem, mem-sorted, sorted-distinct}
-use Rattle.rules.specs.Words.{isIt}
 use Rattle.theory.proofs.Plans.{Plan, busy, did}
 use Rattle.theory.proofs.Layers as Layers
 use Rattle.theory.proofs.Hours.{cnt-always}

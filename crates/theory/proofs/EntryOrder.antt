@@ -1,9 +1,9 @@
--- The order by latest moment, then number, is an order of urgency; and so is that of the block method's entries, where the
--- sooner of two is the one that costs more at a block's end. Assumes nothing.
-use mathlib.Core.Path.{_≡_, refl, sym, ap, _∙_}
+-- The order by latest moment, then number, is an order of urgency; and so is that of the block method's entries,
+-- where the sooner of two is the one that costs more at a block's end. Assumes nothing.
+use mathlib.Core.Path.{_≡_}
 use mathlib.Core.Logic.{_⊎_, inl, inr, ⊎-elim}
-use mathlib.Core.Bool.{Bool, true, false, _&&_, _||_}
-use Prim.Native.Nat.{ℕ, _+_, _≤_, _<_}
+use mathlib.Core.Bool.{Bool, true, _&&_, _||_}
+use Prim.Native.Nat.{ℕ, _+_, _<_}
 use native.Mathlib.Omega.{arith}
 use lib.Dec.{ltb}
 use lib.IntN.{ℤ}
@@ -11,9 +11,9 @@ use lib.Signed.{ltZ, leZ}
 use borrow.Author.Tests.{ltb-true, lt-ltb}
 use Rattle.rules.specs.Entries.{Entry}
 use Rattle.rules.specs.Blocks.{costsLess}
-use Rattle.laws.proofs.Words.{and-true, and-intro, or-left, or-right}
+use Rattle.laws.proofs.Words.{and-true, and-intro, or-left, or-right, or-true}
 use Rattle.laws.proofs.Signed.{up, dn, _≼_, _≺_, ltZ-lt, leZ-le, lt-ltZ, le-leZ}
-use Rattle.theory.proofs.Cases.{by-le, by-eq, by-or, clash}
+use Rattle.theory.proofs.Cases.{by-le, by-eq, clash}
 use Rattle.theory.proofs.Order.{Urgency}
 
 module _ {E : Type 0} (latest : E → ℤ) (num : E → ℕ) where
@@ -27,11 +27,12 @@ module _ {E : Type 0} (latest : E → ℤ) (num : E → ℕ) where
   read : (a b : E) → earlier a b ≡ true → Earlier a b
   unfolding earlier
   read a b h =
-      by-or (ltZ (latest a) (latest b)) (leZ (latest a) (latest b) && ltb (num a) (num b)) h
+      ⊎-elim
       (λ e. inl (ltZ-lt (latest a) (latest b) e))
       (λ e.
-          let k = and-true (leZ (latest a) (latest b)) (ltb (num a) (num b)) e in
-          inr (leZ-le (latest a) (latest b) (k .0), ltb-true (num a) (num b) (k .1)))
+      let k = and-true (leZ (latest a) (latest b)) (ltb (num a) (num b)) e in
+      inr (leZ-le (latest a) (latest b) (k .0), ltb-true (num a) (num b) (k .1)))
+      (or-true (ltZ (latest a) (latest b)) (leZ (latest a) (latest b) && ltb (num a) (num b)) h)
 
   write : (a b : E) → Earlier a b → earlier a b ≡ true
   unfolding earlier
@@ -41,7 +42,7 @@ module _ {E : Type 0} (latest : E → ℤ) (num : E → ℕ) where
   write a b (inr h) =
       or-right (ltZ (latest a) (latest b)) (leZ (latest a) (latest b) && ltb (num a) (num b))
       (and-intro (leZ (latest a) (latest b)) (ltb (num a) (num b))
-          (le-leZ (latest a) (latest b) (h .0)) (lt-ltb (num a) (num b) (h .1)))
+      (le-leZ (latest a) (latest b) (h .0)) (lt-ltb (num a) (num b) (h .1)))
 
   never-both : (a b : E) → Earlier a b → Earlier b a → ⊥
   never-both a b (inl h) (inl k) = omega arith
@@ -59,19 +60,19 @@ module _ {E : Type 0} (latest : E → ℤ) (num : E → ℕ) where
   one-of-two a b apart not-ab =
       by-le (up (latest b) + dn (latest a)) (up (latest a) + dn (latest b))
       (λ h.
-          by-le (num a) (num b)
-          (λ k.
-              by-le (up (latest a) + dn (latest b)) (up (latest b) + dn (latest a))
-              (λ l. absurd (not-ab (inr (l, by-eq (num a) (num b) (λ e. absurd (apart e)) (λ e. omega arith)))))
-              (λ l. inl l))
-          (λ k. inr (h, k)))
+      by-le (num a) (num b)
+      (λ k.
+      by-le (up (latest a) + dn (latest b)) (up (latest b) + dn (latest a))
+      (λ l. absurd (not-ab (inr (l, by-eq (num a) (num b) (λ e. absurd (apart e)) (λ e. omega arith)))))
+      (λ l. inl l))
+      (λ k. inr (h, k)))
       (λ h. absurd (not-ab (inl h)))
 
   pub earlier-urgency : Urgency num earlier
   earlier-urgency = record {
     asym = λ a b h k. never-both a b (read a b h) (read b a k);
     trans = λ a b c h k. write a c (onward a b c (read a b h) (read b c k));
-    total = λ a b apart h. write b a (one-of-two a b apart (λ e. clash (write a b e) h))
+    total = λ a b apart h. write b a (one-of-two a b apart (λ e. clash (write a b e) h));
   }
 
   pub earlier-latest : (a b : E) → earlier a b ≡ true → leZ (latest a) (latest b) ≡ true

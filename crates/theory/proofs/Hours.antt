@@ -1,12 +1,12 @@
--- Opening hours, as far as the desk needs them: which slots are open, and the least moment by which k slots have been
--- open since t. A desk that is always open is one case, with t + k. Assumes nothing.
-use mathlib.Core.Path.{_≡_, refl, sym, ap, _∙_}
-use mathlib.Core.Bool.{Bool, true, false}
-use Prim.Native.Nat.{ℕ, _+_, _≤_, _<_}
+-- Opening hours, as far as the desk needs them: which slots are open, and the least moment by which k slots have
+-- been open since t. A desk that is always open is one case, with t + k. Assumes nothing.
+use mathlib.Core.Path.{_≡_, _∙_}
+use mathlib.Core.Bool.{Bool, true}
+use Prim.Native.Nat.{ℕ, zero, suc, _+_, _*_, _≤_, _<_}
 use native.Mathlib.Omega.{arith}
 use native.Mathlib.Nat.{le-antisymm}
 use Rattle.theory.proofs.Cases.{by-le}
-use Rattle.theory.proofs.Count.{cnt, cnt-ext, cnt-true, cnt-mono}
+use Rattle.theory.proofs.Count.{cnt, cnt-ext, cnt-true}
 
 pub record Hours (opens : ℕ → Bool) (openEnd : ℕ → ℕ → ℕ) : Type 0 where
   pub from : (t k : ℕ) → t ≤ openEnd t k
@@ -37,3 +37,15 @@ module _ (opens : ℕ → Bool) (openEnd : ℕ → ℕ → ℕ) (H : Hours opens
       by-le (cnt opens t + k) (cnt opens u)
       (λ z. absurd (omega (arith, H .least t k u h z)))
       (λ z. z)
+
+-- where every p slots have an open one, k open slots take at most p * k
+pub steady : (opens : ℕ → Bool) (p : ℕ) → ((t : ℕ) → cnt opens t < cnt opens (t + p)) → (t k : ℕ)
+    → cnt opens t + k ≤ cnt opens (t + p * k)
+steady opens p week t zero = let z : t + p * 0 ≡ t = omega arith in rw z (omega arith)
+steady opens p week t (suc k) =
+    let z : t + p * suc k ≡ t + p * k + p = omega arith in
+    rw z (omega (arith, steady opens p week t k, week (t + p * k)))
+
+pub openEnd-steady : (opens : ℕ → Bool) (openEnd : ℕ → ℕ → ℕ) → Hours opens openEnd → (p : ℕ)
+    → ((t : ℕ) → cnt opens t < cnt opens (t + p)) → (t k : ℕ) → openEnd t k ≤ t + p * k
+openEnd-steady opens openEnd H p week t k = H .least t k (t + p * k) (omega arith) (steady opens p week t k)

@@ -1,25 +1,25 @@
--- Optimality: no allowed plan has a smaller worst lateness. If the rule's plan finishes e at c, then at the moment before
--- c not all work on the entries at least as urgent as e is done; by dominance no other plan has done it all either, so
--- it finishes one of them at c or later, and that one's latest moment is no later than e's. Assumes nothing.
-use mathlib.Core.Path.{_≡_, refl, sym, ap, _∙_}
+-- Optimality: no allowed plan has a smaller worst lateness. If the rule's plan finishes e at c, then at the moment
+-- before c not all work on the entries at least as urgent as e is done; by dominance no other plan has done it all
+-- either, so it finishes one of them at c or later, and that one's latest moment is no later than e's. Assumes
+-- nothing.
+use mathlib.Core.Path.{_≡_, refl}
 use mathlib.Core.Logic.{_⊎_, inl, inr}
 use mathlib.Core.Bool.{Bool, true, false, _&&_}
-use mathlib.Core.Option.{Option, none, some}
 use mathlib.Core.List.{List, [], _∷_, map}
 use mathlib.Core.List.{List·Memᴰ·head as here, List·Memᴰ·tail as there}
-use Prim.Native.Nat.{ℕ, zero, suc, _+_, _≤_, _<_}
+use Prim.Native.Nat.{ℕ, _≤_, _<_}
 use native.Mathlib.Omega.{arith}
 use lib.Dec.{ltb}
 use lib.IntN.{ℤ, pos, _-ℤ_}
 use lib.Signed.{leZ}
 use borrow.Author.Tests.{ltb-true, ltb-false, le-leb}
+use Rattle.rules.specs.Words.{isIt, greatestZ, worstOf}
 use Rattle.laws.proofs.Words.{and-true, mem-map, sum-le, sum-lt}
+use Rattle.laws.proofs.Signed.{minus, leZ-le, le-leZ, greatestZ-start, greatestZ-mem, greatestZ-least}
 use Rattle.theory.proofs.Cases.{by-le}
 use Rattle.theory.proofs.Count.{cnt, cnt-mono}
-use Rattle.theory.proofs.Lists.{_∈_, by-mem, map-mem, find, Distinct, sumOf}
+use Rattle.theory.proofs.Lists.{_∈_, by-mem, map-mem, find, Distinct}
 use Rattle.theory.proofs.Order.{Urgency, UpClosed}
-use Rattle.laws.proofs.Signed.{up, dn, minus, leZ-le, le-leZ, greatestZ-start, greatestZ-mem, greatestZ-least}
-use Rattle.rules.specs.Words.{isIt, greatestZ, worstOf}
 use Rattle.theory.proofs.Plans.{Plan, did}
 use Rattle.theory.proofs.Allowed.{Allowed}
 use Rattle.theory.proofs.Rule.{Obeys}
@@ -68,17 +68,17 @@ module _ {E : Type 0} (num ready dur : E → ℕ) (opens : ℕ → Bool) (sooner
   -- while the rule's plan has something of X to do, so has every other
   pub behind : (X : E → Bool) → UpClosed sooner L X → (t : ℕ) (e : E) → e ∈ L → X e ≡ true
       → did w (num e) t < dur e → (f : E) × (f ∈ L) × (X f ≡ true) × (did q (num f) t < dur f)
-  behind X up t e m h left = go (find open· L)
+  behind X up t e m h left = go (find waiting L)
     where
-      open· : E → Bool
-      open· f = X f && ltb (did q (num f) t) (dur f)
+      waiting : E → Bool
+      waiting f = X f && ltb (did q (num f) t) (dur f)
 
-      go : ((f : E) × (f ∈ L) × (open· f ≡ true)) ⊎ ((f : E) → f ∈ L → open· f ≡ false)
+      go : ((f : E) × (f ∈ L) × (waiting f ≡ true)) ⊎ ((f : E) → f ∈ L → waiting f ≡ false)
           → (f : E) × (f ∈ L) × (X f ≡ true) × (did q (num f) t < dur f)
       go (inl (f, n, k)) =
           let b = and-true (X f) (ltb (did q (num f) t) (dur f)) k in
           (f, n, b .0, ltb-true (did q (num f) t) (dur f) (b .1))
-      go (inr none·) = absurd (omega (
+      go (inr nobody) = absurd (omega (
         arith,
         work-sum num X L d w t,
         work-sum num X L d q t,
@@ -90,7 +90,7 @@ module _ {E : Type 0} (num ready dur : E → ℕ) (opens : ℕ → Bool) (sooner
             (omega (arith, part-true (X e) (did w (num e) t) h, part-true (X e) (dur e) h)),
         sum-le (λ f. part (X f) (dur f)) (λ f. part (X f) (did q (num f) t)) L
             (λ f n. part-mono (X f) (dur f) (did q (num f) t)
-            (λ z. ltb-false (did q (num f) t) (dur f) (rw z at (none· f n)))),
+            (λ z. ltb-false (did q (num f) t) (dur f) (rw z at (nobody f n)))),
       ))
 
   -- e's finish is no later than that of some entry of X in the other plan
@@ -120,8 +120,17 @@ module _ {E : Type 0} (num ready dur : E → ℕ) (opens : ℕ → Bool) (sooner
             ))),
       )
 
+  -- by every moment t, no plan has worked more on the entries with latest moment at most x
+  pub work-by-latest : (latest : E → ℤ)
+      → ((e f : E) → e ∈ L → f ∈ L → sooner e f ≡ true → leZ (latest e) (latest f) ≡ true) → (x : ℤ) (t : ℕ)
+      → cnt (λ s. on num (λ e. leZ (latest e) x) L (q s)) t ≤ cnt (λ s. on num (λ e. leZ (latest e) x) L (w s)) t
+  work-by-latest latest sooner-latest x t =
+      obeys-dominates num ready dur opens sooner U L d w rule (λ e. leZ (latest e) x)
+      (λ e f m n h k. leZ-trans (latest e) (latest f) x (sooner-latest e f m n h) k) q a t
+
   -- OPTIMALITY: a bound on the lateness of every entry in another plan is one in the rule's plan
-  module _ (latest : E → ℤ) (sooner-latest : (e f : E) → e ∈ L → f ∈ L → sooner e f ≡ true → leZ (latest e) (latest f) ≡ true)
+  module _ (latest : E → ℤ)
+      (sooner-latest : (e f : E) → e ∈ L → f ∈ L → sooner e f ≡ true → leZ (latest e) (latest f) ≡ true)
       (some-work : (e : E) → e ∈ L → 1 ≤ dur e)
       (finish other : E → ℕ)
       (finishes : (e : E) → e ∈ L → Finish w (num e) (dur e) (finish e))

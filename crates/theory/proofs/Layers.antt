@@ -1,21 +1,21 @@
--- The plan by layers: the entries lie in a list, LEAST urgent first, and each entry takes of the slots that the plan of
--- the entries behind it leaves free the first ones it can use. So to take the least urgent entry away changes nothing
--- for the others, by definition. Assumes nothing.
+-- The plan by layers: the entries lie in a list, LEAST urgent first, and each entry takes of the slots that the plan
+-- of the entries behind it leaves free the first ones it can use. So to take the least urgent entry away changes
+-- nothing for the others, by definition. Assumes nothing.
 use mathlib.Core.Path.{_≡_, refl, sym, ap, _∙_}
 use mathlib.Core.Bool.{Bool, true, false, not, _&&_, _||_}
-use mathlib.Core.Option.{Option, none, some}
+use mathlib.Core.Option.{none, some}
 use mathlib.Core.List.{List, [], _∷_}
 use mathlib.Core.List.{List·Memᴰ·head as here, List·Memᴰ·tail as there}
 use Prim.Native.Nat.{ℕ, _+_, _≤_, _<_, min}
 use native.Mathlib.Omega.{arith}
 use lib.Dec.{leb, ltb}
 use borrow.Author.Tests.{leb-true, le-leb, lt-ltb, ltb-true, not-true}
+use Rattle.rules.specs.Words.{isIt}
 use Rattle.laws.proofs.Words.{by-test, and-true}
 use Rattle.theory.proofs.Cases.{clash, or-rest}
 use Rattle.theory.proofs.Count.{cnt, cnt-ext, cnt-gain, cnt-or, firstN, cnt-firstN}
-use Rattle.theory.proofs.Lists.{_∈_, Distinct}
-use Rattle.rules.specs.Words.{isIt}
-use Rattle.theory.proofs.Plans.{Plan, busy, did, works-some, some-works, other-works, none-works, some-busy, busy-none, works-busy}
+use Rattle.theory.proofs.Lists.{_∈_}
+use Rattle.theory.proofs.Plans.{Plan, busy, did, some-works, other-works, none-works, some-busy, busy-none}
 
 module _ {E : Type 0} (num ready dur : E → ℕ) (opens : ℕ → Bool) where
   -- the slots that x could use where the plan w goes first
@@ -57,7 +57,8 @@ module _ {E : Type 0} (num ready dur : E → ℕ) (opens : ℕ → Bool) where
 
     pub chance-open : chance x w t ≡ true → opens t ≡ true
     unfolding chance
-    chance-open h = and-true (opens t) (leb (ready x) t) (and-true (opens t && leb (ready x) t) (not (busy (w t))) h .0) .0
+    chance-open h =
+        and-true (opens t) (leb (ready x) t) (and-true (opens t && leb (ready x) t) (not (busy (w t))) h .0) .0
 
     pub chance-ready : chance x w t ≡ true → ready x ≤ t
     unfolding chance

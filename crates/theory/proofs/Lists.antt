@@ -51,14 +51,14 @@ sum-snoc f (y ∷ L) x = omega (arith, sum-snoc f L x)
 pub distinct-snoc : {A : Type 0} (num : A → ℕ) (L : List A) (x : A) → Distinct num L
     → ((a : A) → a ∈ L → num a ≡ num x → ⊥) → Distinct num (L ++ (x ∷ []))
 distinct-snoc num [] x d apart = (λ a m. elim m [ ], tt)
-distinct-snoc num (y ∷ L) x d apart =
-    ( λ a m e.
-        ⊎-elim
-        (λ n. d .0 a n e)
-        (λ n. apart y (here refl) (sym e ∙ ap num (List·Memᴰ·eq-of-singleton n)))
-        (List·Memᴰ·append-cases L m)
-    , distinct-snoc num L x (d .1) (λ a m. apart a (there m))
-    )
+distinct-snoc num (y ∷ L) x d apart = (
+  λ a m e.
+      ⊎-elim
+      (λ n. d .0 a n e)
+      (λ n. apart y (here refl) (sym e ∙ ap num (List·Memᴰ·eq-of-singleton n)))
+      (List·Memᴰ·append-cases L m),
+  distinct-snoc num L x (d .1) (λ a m. apart a (there m)),
+)
 
 -- an element of a mapped list comes from one of the list
 pub map-mem : {A B : Type 0} (f : A → B) (L : List A) (y : B) → y ∈ map f L → (a : A) × (a ∈ L) × (y ≡ f a)

@@ -3,19 +3,20 @@
 -- Assumes nothing.
 use mathlib.Core.Path.{_≡_, refl, sym, ap, _∙_, subst, fun-ext}
 use mathlib.Core.Bool.{Bool, true, false}
-use mathlib.Core.Option.{Option, none, some, Option·some-injective}
+use mathlib.Core.Option.{none, some, Option·some-injective}
 use mathlib.Core.List.{List, [], _∷_}
 use mathlib.Core.List.{List·Memᴰ·head as here, List·Memᴰ·tail as there}
-use Prim.Native.Nat.{ℕ, zero, suc, _≤_, _<_, min}
+use Prim.Native.Nat.{ℕ, zero, suc, _≤_, min}
 use native.Mathlib.Omega.{arith}
+use Rattle.rules.specs.Words.{isIt}
 use Rattle.laws.proofs.Words.{by-test}
 use Rattle.theory.proofs.Cases.{by-le, clash}
 use Rattle.theory.proofs.Count.{cnt, cnt-zero, cnt-hit, cnt-miss}
 use Rattle.theory.proofs.Lists.{_∈_, by-mem, Distinct}
-use Rattle.theory.proofs.Order.{Urgency, Ordered, sorted, sorted-mem, mem-sorted, sorted-distinct, sorted-ordered}
+use Rattle.theory.proofs.Order.{Urgency, Ordered, sorted, sorted-mem, mem-sorted, sorted-distinct}
+use Rattle.theory.proofs.Order.{sorted-ordered}
 use Rattle.theory.proofs.Plans as Plans
-use Rattle.rules.specs.Words.{isIt}
-use Rattle.theory.proofs.Plans.{Plan, busy, did}
+use Rattle.theory.proofs.Plans.{Plan, did}
 use Rattle.theory.proofs.Layers as Layers
 use Rattle.theory.proofs.Allowed.{Allowed}
 use Rattle.theory.proofs.Rule.{Chooses, work, rest, Candidate, Obeys, moved, chosen, obeys-is-layers}
@@ -46,12 +47,13 @@ module _ {E : Type 0} (num ready dur : E → ℕ) (opens : ℕ → Bool) (sooner
         (record {
           hour = Layers.chance-open num ready dur opens x w t chance;
           ripe = Layers.chance-ready num ready dur opens x w t chance;
-          left = omega (arith, own, Layers.takes-left num ready dur opens x w t h)
+          left = omega (arith, own, Layers.takes-left num ready dur opens x w t h);
         })
         (λ f m k apart. by-mem m (λ p. absurd (apart (ap num p))) (λ n. absurd (nobody c f n (old f n k))))
       where
         chance : Layers.chance num ready dur opens x w t ≡ true
         chance = Layers.takes-chance num ready dur opens x w t h
+
         nobody : Chooses num sooner (Can w) L (w t) → (f : E) → f ∈ L → Can w f → ⊥
         nobody (work e m q k s) f n j =
             clash (Plans.some-busy (w t) (num e) q) (Layers.chance-free num ready dur opens x w t chance)
@@ -63,22 +65,22 @@ module _ {E : Type 0} (num ready dur : E → ℕ) (opens : ℕ → Bool) (sooner
         work e (there m) (Layers.layer-miss num ready dur opens x w t h ∙ q)
         (moved num ready dur opens v w t e (same e m) c)
         (λ f n k apart.
-            by-mem n
-            (λ p. rw p (last e m))
-            (λ n′. s f n′ (old f n′ k) apart))
+        by-mem n
+        (λ p. rw p (last e m))
+        (λ n′. s f n′ (old f n′ k) apart))
     layer-misses h (rest q n) =
         rest (Layers.layer-miss num ready dur opens x w t h ∙ q)
         (λ f m c.
-            by-mem m
-            (λ p. done (rw p at c))
-            (λ n′. n f n′ (old f n′ c)))
+        by-mem m
+        (λ p. done (rw p at c))
+        (λ n′. n f n′ (old f n′ c)))
       where
         done : Can v x → ⊥
         done c =
             clash
             (Layers.takes-when num ready dur opens x w t
-                (Layers.chance-when num ready dur opens x w t (c .hour) (c .ripe) (Plans.none-busy (w t) q))
-                (omega (arith, own, c .left)))
+            (Layers.chance-when num ready dur opens x w t (c .hour) (c .ripe) (Plans.none-busy (w t) q))
+            (omega (arith, own, c .left)))
             h
 
   pub layer-obeys : (x : E) (L : List E) → Distinct num (x ∷ L) → ((f : E) → f ∈ L → sooner f x ≡ true) → (w : Plan)
@@ -134,38 +136,45 @@ module _ {E : Type 0} (num ready dur : E → ℕ) (opens : ℕ → Bool) (sooner
       nobody (work f n p c s) k = Plans.none-some (w t) (num f) q p
       nobody (rest p n) k = n e m k
 
-  module _ (L : List E) (d : Distinct num L) (w : Plan) (rule : Obeys num ready dur opens sooner L w) where
-    -- who is worked on is a candidate
-    pub obeys-candidate : (t : ℕ) (e : E) → e ∈ L → w t ≡ some (num e) → Candidate num ready dur opens w t e
-    obeys-candidate t e m p =
-        chosen num sooner (Candidate num ready dur opens w t) L d (w t) (rule t) e m p
+  -- whoever chooses among candidates, of whom it may ask more than the rule does, makes an allowed plan
+  module _ (L : List E) (d : Distinct num L) (w : Plan) (C : ℕ → E → Type 0)
+      (less : (t : ℕ) (e : E) → C t e → Candidate num ready dur opens w t e)
+      (choice : (t : ℕ) → Chooses num sooner (C t) L (w t)) where
+    worked-candidate : (t : ℕ) (e : E) → e ∈ L → w t ≡ some (num e) → Candidate num ready dur opens w t e
+    worked-candidate t e m p = less t e (chosen num sooner (C t) L d (w t) (choice t) e m p)
 
-    obeys-most : (e : E) → e ∈ L → (t : ℕ) → did w (num e) t ≤ dur e
-    obeys-most e m zero = omega (arith, cnt-zero (λ s. isIt (w s) (num e)))
-    obeys-most e m (suc t) =
+    worked-most : (e : E) → e ∈ L → (t : ℕ) → did w (num e) t ≤ dur e
+    worked-most e m zero = omega (arith, cnt-zero (λ s. isIt (w s) (num e)))
+    worked-most e m (suc t) =
         by-test (isIt (w t) (num e))
         (λ h.
-            omega
-            ( arith
-            , cnt-hit (λ s. isIt (w s) (num e)) t h
-            , obeys-candidate t e m (Plans.works-some (w t) (num e) h) .left
-            ))
-        (λ h. omega (arith, cnt-miss (λ s. isIt (w s) (num e)) t h, obeys-most e m t))
+        omega (
+          arith,
+          cnt-hit (λ s. isIt (w s) (num e)) t h,
+          worked-candidate t e m (Plans.works-some (w t) (num e) h) .left,
+        ))
+        (λ h. omega (arith, cnt-miss (λ s. isIt (w s) (num e)) t h, worked-most e m t))
 
-    pub obeys-allowed : Allowed num ready dur opens L w
-    obeys-allowed = record {
-      known = λ t i p. known t i p (rule t);
+    pub choice-allowed : Allowed num ready dur opens L w
+    choice-allowed = record {
+      known = λ t i p. known t i p (choice t);
       hours = λ t i p.
-          let r = known t i p (rule t) in
-          obeys-candidate t (r .0) (r .1) (p ∙ ap some (sym (r .2))) .hour;
-      after = λ e m t p. obeys-candidate t e m p .ripe;
-      most = obeys-most
+          let r = known t i p (choice t) in
+          worked-candidate t (r .0) (r .1) (p ∙ ap some (sym (r .2))) .hour;
+      after = λ e m t p. worked-candidate t e m p .ripe;
+      most = worked-most;
     }
       where
-        known : (t i : ℕ) → w t ≡ some i → Chooses num sooner (Candidate num ready dur opens w t) L (w t)
-            → (e : E) × (e ∈ L) × (num e ≡ i)
+        known : (t i : ℕ) → w t ≡ some i → Chooses num sooner (C t) L (w t) → (e : E) × (e ∈ L) × (num e ≡ i)
         known t i p (work e m q c s) = (e, m, Option·some-injective (num e) i (sym q ∙ p))
         known t i p (rest q n) = absurd (Plans.none-some (w t) i q p)
+
+  module _ (L : List E) (d : Distinct num L) (w : Plan) (rule : Obeys num ready dur opens sooner L w) where
+    pub obeys-candidate : (t : ℕ) (e : E) → e ∈ L → w t ≡ some (num e) → Candidate num ready dur opens w t e
+    obeys-candidate = worked-candidate L d w (Candidate num ready dur opens w) (λ t e c. c) rule
+
+    pub obeys-allowed : Allowed num ready dur opens L w
+    obeys-allowed = choice-allowed L d w (Candidate num ready dur opens w) (λ t e c. c) rule
 
   module _ (U : Urgency num sooner) where
     -- THE RULE IS THE LAYERS over the sorted list, so it has exactly one plan

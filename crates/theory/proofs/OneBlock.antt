@@ -1,16 +1,14 @@
--- One block of the block method: if the others are planned by the rule, then with the entry set aside in the slots that
--- they leave free, the block is planned by the rule, and is over by its end. Assumes nothing.
-use mathlib.Core.Path.{_≡_, refl, sym, ap, _∙_}
-use mathlib.Core.Bool.{Bool, true, false, _&&_}
-use mathlib.Core.Option.{Option, none, some}
-use mathlib.Core.List.{List, [], _∷_, _++_}
+-- One block of the block method: if the others are planned by the rule, then with the entry set aside in the slots
+-- that they leave free, the block is planned by the rule, and is over by its end. Assumes nothing.
+use mathlib.Core.Path.{_≡_, sym, ap, _∙_}
+use mathlib.Core.Bool.{Bool, true, _&&_}
+use mathlib.Core.Option.{some}
+use mathlib.Core.List.{List, _∷_}
 use mathlib.Core.List.{List·Memᴰ·head as here, List·Memᴰ·tail as there}
-use Prim.Native.Nat.{ℕ, _+_, _≤_, _<_}
-use native.Mathlib.Omega.{arith}
+use Prim.Native.Nat.{ℕ, _≤_, _<_}
 use lib.Dec.{leb, ltb}
-use lib.ListN.{length}
 use borrow.Author.Tests.{ltb-true}
-use Rattle.rules.specs.Words.{when, isIt, orElse}
+use Rattle.rules.specs.Words.{when, orElse}
 use Rattle.rules.specs.Entries.{Entry}
 use Rattle.rules.specs.Blocks.{Block, blockEnd, setAside, others, isSlotOf, inBlock}
 use Rattle.laws.proofs.Words.{by-test, and-true}
@@ -25,7 +23,7 @@ use Rattle.theory.proofs.Obeyed.{layer-obeys, obeys-members, obeys-ext,
 use Rattle.theory.proofs.Locality.{orElse-some, orElse-none}
 use Rattle.theory.proofs.Gathered.{Chained, block-busy}
 use Rattle.theory.proofs.EntryOrder.{number, urgent}
-use Rattle.theory.proofs.SetAside.{Last, set-aside, others-mem, mem-others, others-distinct}
+use Rattle.theory.proofs.SetAside.{LinksAhead, Last, set-aside, others-mem, mem-others, others-distinct}
 
 abbrev pub readyAt : Entry → ℕ
 readyAt e = e .ready
@@ -47,8 +45,7 @@ pub record Sound (opens : ℕ → Bool) (B : Block) : Type 0 where
 
 module _ (follows : ℕ → ℕ → Bool) (opens : ℕ → Bool) (endOf : ℕ → ℕ → ℕ) (H : Hours opens endOf)
     (planned : List Entry → Plan) (B : Block) (S : Sound opens B)
-    (links : (e f : Entry) → e ∈ B .members → f ∈ B .members → follows (e .number) (f .number) ≡ true
-        → urgent e f ≡ true)
+    (links : LinksAhead follows (B .members))
     (rest : (z : Entry) → z ∈ B .members → ObeysFor opens (others B z) (planned (others B z))) where
   -- who the block works on
   abbrev pub works : Plan
@@ -67,17 +64,17 @@ module _ (follows : ℕ → ℕ → Bool) (opens : ℕ → Bool) (endOf : ℕ �
         obeys-members number readyAt lasting opens urgent (z ∷ others B z) (B .members)
         (λ f m. by-mem m (λ p. rw p (last .member)) (λ n. mem-others B z f n .0))
         (λ f m.
-            by-eq (f .number) (z .number)
-            (λ e. here (same-number number (B .members) (S .apart) f z m (last .member) e))
-            (λ e. there (others-mem B z f m e)))
+        by-eq (f .number) (z .number)
+        (λ e. here (same-number number (B .members) (S .apart) f z m (last .member) e))
+        (λ e. there (others-mem B z f m e)))
         v
         (layer-obeys number readyAt lasting opens urgent z (others B z)
-            (λ a m. mem-others B z a m .1, others-distinct B z (S .apart))
-            (λ f m. let k = mem-others B z f m in last .behind f (k .0) (k .1))
-            below
-            (obeys-fresh number readyAt lasting opens urgent (others B z) below (rest z (last .member)) (z .number)
-                (λ e m. mem-others B z e m .1))
-            (rest z (last .member)))
+        (λ a m. mem-others B z a m .1, others-distinct B z (S .apart))
+        (λ f m. let k = mem-others B z f m in last .behind f (k .0) (k .1))
+        below
+        (obeys-fresh number readyAt lasting opens urgent (others B z) below (rest z (last .member)) (z .number)
+        (λ e m. mem-others B z e m .1))
+        (rest z (last .member)))
 
     -- it is busy in the slots of the block, and in no other
     slot-busy : (t : ℕ) → busy (v t) ≡ isSlotOf follows opens endOf B t
@@ -93,24 +90,24 @@ module _ (follows : ℕ → ℕ → Bool) (opens : ℕ → Bool) (endOf : ℕ �
     same t =
         rw (chosen, inBlock)
         (by-test (isSlotOf follows opens endOf B t)
-            (λ h. rw (h, when) (inside h))
-            (λ h. rw (h, when) (Plans.busy-none (v t) (slot-busy t ∙ h))))
+        (λ h. rw (h, when) (inside h))
+        (λ h. rw (h, when) (Plans.busy-none (v t) (slot-busy t ∙ h))))
       where
         inside : isSlotOf follows opens endOf B t ≡ true → v t ≡ orElse (below t) (some (z .number))
         inside h =
             Plans.by-who (below t)
             (λ e.
-                by-test (Layers.takes number readyAt lasting opens z below t)
-                (λ k.
-                    Layers.layer-hit number readyAt lasting opens z below t k
-                    ∙ sym (orElse-none (below t) (some (z .number)) e))
-                (λ k.
-                    clash (slot-busy t ∙ h)
-                    (Plans.none-busy (v t) (Layers.layer-miss number readyAt lasting opens z below t k ∙ e))))
+            by-test (Layers.takes number readyAt lasting opens z below t)
+            (λ k.
+            Layers.layer-hit number readyAt lasting opens z below t k
+            ∙ sym (orElse-none (below t) (some (z .number)) e))
+            (λ k.
+            clash (slot-busy t ∙ h)
+            (Plans.none-busy (v t) (Layers.layer-miss number readyAt lasting opens z below t k ∙ e))))
             (λ j e.
-                Layers.layer-miss number readyAt lasting opens z below t
-                (Layers.takes-behind number readyAt lasting opens z below t (Plans.some-busy (below t) j e))
-                ∙ sym (orElse-some (below t) (some (z .number)) j e))
+            Layers.layer-miss number readyAt lasting opens z below t
+            (Layers.takes-behind number readyAt lasting opens z below t (Plans.some-busy (below t) j e))
+            ∙ sym (orElse-some (below t) (some (z .number)) j e))
 
   abbrev aside : (z : Entry) × (setAside follows B ≡ some z) × Last (B .members) z
   aside = set-aside follows B (S .apart) links (S .filled .0) (S .filled .1)
@@ -126,6 +123,6 @@ module _ (follows : ℕ → ℕ → Bool) (opens : ℕ → Bool) (endOf : ℕ �
   block-over t h =
       let a = aside in
       let slot : isSlotOf follows opens endOf B t ≡ true =
-          sym (slot-busy (a .0) (a .1) (a .2) t) ∙ ap busy (same (a .0) (a .1) (a .2) t) ∙ h in
+      sym (slot-busy (a .0) (a .1) (a .2) t) ∙ ap busy (same (a .0) (a .1) (a .2) t) ∙ h in
       let k = and-true (leb (B .from) t && ltb t (blockEnd endOf B)) (opens t) slot in
       ltb-true t (blockEnd endOf B) (and-true (leb (B .from) t) (ltb t (blockEnd endOf B)) (k .0) .1)

@@ -1,5 +1,5 @@
--- The order of urgency, `sooner`, as far as the desk needs it: a strict order that is total on different numbers. Sorting
--- by it, LEAST urgent first, keeps the entries and puts them in order. Assumes nothing.
+-- The order of urgency, `sooner`, as far as the desk needs it: a strict order that is total on different numbers.
+-- Sorting by it, LEAST urgent first, keeps the entries and puts them in order. Assumes nothing.
 use mathlib.Core.Path.{_≡_, refl, sym, ap, _∙_}
 use mathlib.Core.Bool.{Bool, true, false}
 use mathlib.Core.List.{List, [], _∷_}
@@ -120,15 +120,15 @@ module _ {E : Type 0} (sooner : E → E → Bool) where
     insert-climbs x (y ∷ L) c =
         by-test (sooner y x)
         (λ h.
-            rw (insert-front x y L h)
-            ( λ f m. by-mem m (λ p. rw p (front x y h)) (λ n. omega (arith, front x y h, c .0 f n))
-            , c
-            ))
+        rw (insert-front x y L h) (
+          λ f m. by-mem m (λ p. rw p (front x y h)) (λ n. omega (arith, front x y h, c .0 f n)),
+          c,
+        ))
         (λ h.
-            rw (insert-behind x y L h)
-            ( λ f m. insert-from x L f m (λ p. rw p (behind x y h)) (λ n. c .0 f n)
-            , insert-climbs x L (c .1)
-            ))
+        rw (insert-behind x y L h) (
+          λ f m. insert-from x L f m (λ p. rw p (behind x y h)) (λ n. c .0 f n),
+          insert-climbs x L (c .1),
+        ))
 
     pub sorted-climbs : (L : List E) → Climbs key (sorted L)
     unfolding sorted

@@ -1,12 +1,13 @@
--- A plan of a desk says for each slot the number worked on, or that the desk rests. Here are the words for plans: who
--- isIt, how often before a moment, and a plan with one number taken out. Assumes nothing.
-use mathlib.Core.Path.{_≡_, refl, sym, ap, _∙_}
+-- A plan of a desk says for each slot the number worked on, or that the desk rests. Here are the words for plans:
+-- who isIt, how often before a moment, and a plan with one number taken out. Assumes nothing.
+use mathlib.Core.Path.{_≡_, refl, sym, _∙_}
 use mathlib.Core.Bool.{Bool, true, false, _||_}
 use mathlib.Core.Option.{Option, none, some, Option·none-ne-some}
 use Prim.Native.Nat.{ℕ, _+_}
-use borrow.Author.Tests.{eqb-true, eq-eqb, ne-eqb}
+use borrow.Author.Tests.{ne-eqb}
 use Rattle.rules.specs.Words.{isIt}
 use Rattle.laws.proofs.Words.{by-test}
+pub use Rattle.laws.proofs.Slots.{by-choice as by-who, isIt-true as works-some, it-is as some-works}
 use Rattle.theory.proofs.Cases.{clash, or-rest}
 use Rattle.theory.proofs.Count.{cnt, cnt-ext, cnt-or}
 
@@ -20,20 +21,6 @@ busy (some j) = true
 -- slots before t in which i is worked on
 abbrev pub did : Plan → ℕ → ℕ → ℕ
 did w i t = cnt (λ s. isIt (w s) i) t
-
--- somebody is worked on, or nobody
-pub by-who : {P : Type 0} (o : Option ℕ) → (o ≡ none → P) → ((i : ℕ) → o ≡ some i → P) → P
-by-who none rests worked = rests refl
-by-who (some i) rests worked = worked i refl
-
-pub works-some : (o : Option ℕ) (i : ℕ) → isIt o i ≡ true → o ≡ some i
-unfolding isIt
-works-some none i h = clash h refl
-works-some (some j) i h = ap some (eqb-true j i h)
-
-pub some-works : (o : Option ℕ) (i : ℕ) → o ≡ some i → isIt o i ≡ true
-unfolding isIt
-some-works o i e = rw e (eq-eqb i i refl)
 
 pub other-works : (o : Option ℕ) (i j : ℕ) → o ≡ some i → (i ≡ j → ⊥) → isIt o j ≡ false
 unfolding isIt

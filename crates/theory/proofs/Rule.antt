@@ -1,26 +1,26 @@
--- The page's rule, slot by slot: the desk isIt on the soonest candidate, and rests only if there is none. A plan that
--- obeys it for a list in order of urgency IS the plan by layers, in every slot. Assumes nothing.
+-- The page's rule, slot by slot: the desk isIt on the soonest candidate, and rests only if there is none. A plan
+-- that obeys it for a list in order of urgency IS the plan by layers, in every slot. Assumes nothing.
 use mathlib.Core.Path.{_≡_, refl, sym, ap, _∙_, fun-ext}
-use mathlib.Core.Bool.{Bool, true, false, not, _&&_}
+use mathlib.Core.Bool.{Bool, true, _&&_}
 use mathlib.Core.Option.{Option, none, some, Option·some-injective}
 use mathlib.Core.List.{List, [], _∷_}
 use mathlib.Core.List.{List·Memᴰ·head as here, List·Memᴰ·tail as there}
-use Prim.Native.Nat.{ℕ, _≤_, _<_, min}
-use native.Mathlib.Omega.{arith}
-use lib.Dec.{leb, ltb}
-use borrow.Author.Tests.{le-leb, lt-ltb, ltb-true}
+use Prim.Native.Nat.{ℕ, _≤_, _<_}
+use lib.Dec.{ltb}
+use borrow.Author.Tests.{lt-ltb, ltb-true}
+use Rattle.rules.specs.Words.{isIt}
 use Rattle.laws.proofs.Words.{by-test, and-true, and-intro}
 use Rattle.theory.proofs.Cases.{clash, test-ext}
-use Rattle.theory.proofs.Count.{cnt, firstN, firstN-unique}
+use Rattle.theory.proofs.Count.{firstN-unique}
 use Rattle.theory.proofs.Lists.{_∈_, by-mem, Distinct, same-number}
-use Rattle.theory.proofs.Order.{Urgency, Ordered, sorted, sorted-mem, mem-sorted, sorted-distinct, sorted-ordered}
+use Rattle.theory.proofs.Order.{Ordered}
 use Rattle.theory.proofs.Plans as Plans
-use Rattle.rules.specs.Words.{isIt}
-use Rattle.theory.proofs.Plans.{Plan, busy, did, without}
+use Rattle.theory.proofs.Plans.{Plan, did, without}
 use Rattle.theory.proofs.Layers as Layers
 
 -- what a desk does in a slot, when C says who is a candidate: the soonest of them, or nothing where there is none
-pub data Chooses {E : Type 0} (num : E → ℕ) (sooner : E → E → Bool) (C : E → Type 0) (L : List E) (o : Option ℕ) : Type 0 where
+pub data Chooses {E : Type 0} (num : E → ℕ) (sooner : E → E → Bool) (C : E → Type 0) (L : List E) (o : Option ℕ)
+    : Type 0 where
   work : (e : E) → e ∈ L → o ≡ some (num e) → C e
       → ((f : E) → f ∈ L → C f → (num f ≡ num e → ⊥) → sooner e f ≡ true) → Chooses num sooner C L o
   rest : o ≡ none → ((f : E) → f ∈ L → C f → ⊥) → Chooses num sooner C L o
@@ -105,8 +105,8 @@ module _ {E : Type 0} (num ready dur : E → ℕ) (opens : ℕ → Bool) where
           c : chance t ≡ true
           c = and-true (chance t) (ltb (did w (num x) t) (dur x)) h .0
 
-          here· : Candidate w t x
-          here· = record {
+          waits : Candidate w t x
+          waits = record {
             hour = Layers.chance-open num ready dur opens x v t c;
             ripe = Layers.chance-ready num ready dur opens x v t c;
             left =
@@ -123,7 +123,7 @@ module _ {E : Type 0} (num ready dur : E → ℕ) (opens : ℕ → Bool) where
               (Plans.works-busy (v t) (num e)
               (Plans.without-other (num x) w t (num e) (d .0 e n) ∙ Plans.some-works (w t) (num e) q))
               (Layers.chance-free num ready dur opens x v t c))
-          go (rest q n) = absurd (n x (here refl) here·)
+          go (rest q n) = absurd (n x (here refl) waits)
 
       lowest : (t : ℕ) → w t ≡ Layers.layer num ready dur opens x v t
       unfolding Layers.takes

@@ -1,14 +1,14 @@
 -- The bound on runs: a desk with m entries, m at least 1, has at most 2 m - 1 runs. Each layer adds at most 2 to the
--- score of the row: it fills every free open slot from its first chance to its last slot; to fill the free slots between
--- two busy stretches costs one run and saves one waking, and only the first and the last filling may cost one more.
--- Assumes nothing.
-use mathlib.Core.Path.{_≡_, refl, sym, ap, _∙_, fun-ext}
+-- score of the row: it fills every free open slot from its first chance to its last slot; to fill the free slots
+-- between two busy stretches costs one run and saves one waking, and only the first and the last filling may cost
+-- one more. Assumes nothing.
+use mathlib.Core.Path.{_≡_, refl, ap, _∙_, fun-ext}
 use mathlib.Core.Logic.{_⊎_, inl, inr, ⊎-elim}
-use mathlib.Core.Bool.{Bool, true, false}
+use mathlib.Core.Bool.{Bool, true}
 use mathlib.Core.Option.{Option, none, some}
 use mathlib.Core.List.{List, [], _∷_, map}
 use mathlib.Core.List.{List·Memᴰ·head as here, List·Memᴰ·tail as there}
-use Prim.Native.Nat.{ℕ, zero, suc, _+_, _-_, _*_, _≤_, _<_}
+use Prim.Native.Nat.{ℕ, _+_, _-_, _*_, _≤_, _<_}
 use native.Mathlib.Omega.{arith}
 use lib.ListN.{length}
 use Rattle.rules.specs.Words.{keep, below}
@@ -24,7 +24,8 @@ use Rattle.theory.proofs.Layers as Layers
 use Rattle.theory.proofs.Rule.{Obeys}
 use Rattle.theory.proofs.Obeyed.{obeys-layers}
 use Rattle.theory.proofs.Turns.{turnsOf, whos-turns, Rise, rise-open}
-use Rattle.theory.proofs.Score.{begun, score, runs-are, begun-waking, value-rest, value-wake, value-same, value-change, value-most, score-at, score-drop, rests-score}
+use Rattle.theory.proofs.Score.{begun, score, runs-are, begun-waking, value-rest, value-wake, value-same}
+use Rattle.theory.proofs.Score.{value-change, value-most, score-at, score-drop, rests-score}
 
 module _ {E : Type 0} (num ready dur : E → ℕ) (opens : ℕ → Bool) (x : E) (w : Plan) where
   abbrev b : Plan

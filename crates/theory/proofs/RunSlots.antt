@@ -1,14 +1,14 @@
--- The run lengths of a piece add to the slots worked on it: no slot of work is lost between runs, and none is counted
--- twice. With the whole duration worked, they add to the duration. Assumes nothing.
-use mathlib.Core.Path.{_≡_, refl, sym, ap, _∙_}
-use mathlib.Core.Bool.{Bool, true, false, _&&_}
+-- The run lengths of a piece add to the slots worked on it: no slot of work is lost between runs, and none is
+-- counted twice. With the whole duration worked, they add to the duration. Assumes nothing.
+use mathlib.Core.Path.{_≡_, ap}
+use mathlib.Core.Bool.{Bool, true, _&&_}
 use mathlib.Core.Option.{Option, none, some}
 use mathlib.Core.List.{List, [], _∷_, map}
 use Prim.Native.Nat.{ℕ, zero, suc, _+_}
 use native.Mathlib.Omega.{arith}
 use lib.Dec.{eqb}
 use Rattle.rules.specs.Words.{when, isIt, keep, row, below, sum}
-use Rattle.rules.specs.Runs.{Turn, Run, newRun, longerRun, closing, goesOn, runsFrom}
+use Rattle.rules.specs.Runs.{Turn, Run, newRun, longerRun, closing, runsFrom}
 use Rattle.laws.proofs.Words.{by-test, and-true, and-intro}
 use Rattle.theory.proofs.Cases.{test-ext}
 use Rattle.theory.proofs.Count.{bit, cnt, cnt-zero, cnt-suc, cnt-ext}
@@ -38,7 +38,8 @@ closing-slots i (some r) rs =
     (λ e. rw (e, when) (omega arith))
 
 -- one slot longer, or begun
-longer-slots : (i : ℕ) (r : Run) (t : ℕ) → underWay i (some (longerRun r t)) ≡ underWay i (some r) + bit (eqb (r .piece) i)
+longer-slots : (i : ℕ) (r : Run) (t : ℕ)
+    → underWay i (some (longerRun r t)) ≡ underWay i (some r) + bit (eqb (r .piece) i)
 unfolding underWay bit when
 longer-slots i r t =
     by-test (eqb (r .piece) i)
@@ -79,12 +80,12 @@ turns-count opens w i (suc n) a =
     ≡ cnt (λ t. opens t && isIt (w t) i) (suc a + n) = turns-count opens w i n (suc a) in
     rw z
     (by-test (opens a)
-    (λ e. rw (e, when) (omega (arith, here· e)))
-    (λ e. rw (e, when) (omega (arith, here· e))))
+    (λ e. rw (e, when) (omega (arith, one-more e)))
+    (λ e. rw (e, when) (omega (arith, one-more e))))
   where
-    here· : {b : Bool} → opens a ≡ b
+    one-more : {b : Bool} → opens a ≡ b
         → cnt (λ t. opens t && isIt (w t) i) (suc a) ≡ cnt (λ t. opens t && isIt (w t) i) a + bit (b && isIt (w a) i)
-    here· {b} e = rw (← e) (cnt-suc (λ t. opens t && isIt (w t) i) a)
+    one-more {b} e = rw (← e) (cnt-suc (λ t. opens t && isIt (w t) i) a)
 
 -- THE RUN LENGTHS OF A PIECE add to the slots worked on it
 pub run-lengths : (opens : ℕ → Bool) (w : Plan) → ((t i : ℕ) → w t ≡ some i → opens t ≡ true) → (i h : ℕ)

@@ -1,6 +1,6 @@
--- Each run tells the truth: in each open slot of it the desk works on its piece, and it counts those slots. Shown slot by
--- slot, by one principle that the other facts of runs use too. Assumes nothing.
-use mathlib.Core.Path.{_≡_, refl, sym, ap, _∙_}
+-- Each run tells the truth: in each open slot of it the desk works on its piece, and it counts those slots. Shown
+-- slot by slot, by one principle that the other facts of runs use too. Assumes nothing.
+use mathlib.Core.Path.{_≡_, refl, ap}
 use mathlib.Core.Bool.{Bool, true, false}
 use mathlib.Core.Option.{Option, none, some}
 use mathlib.Core.List.{List, [], _∷_, map}
@@ -37,28 +37,28 @@ module _ (opens : ℕ → Bool) (w : Plan) where
       (over : (u : Option Run) (a : ℕ) → P u a 0 (closing u []))
       (shut : (u : Option Run) (a n : ℕ) (rs : List Run) → opens a ≡ false → P u (suc a) n rs → P u a (suc n) rs)
       (rests : (u : Option Run) (a n : ℕ) (rs : List Run) → opens a ≡ true → w a ≡ none → P none (suc a) n rs
-          → P u a (suc n) (closing u rs))
+      → P u a (suc n) (closing u rs))
       (longer : (r : Run) (a n : ℕ) (rs : List Run) → opens a ≡ true → w a ≡ some (r .piece)
-          → P (some (longerRun r a)) (suc a) n rs → P (some r) a (suc n) rs)
+      → P (some (longerRun r a)) (suc a) n rs → P (some r) a (suc n) rs)
       (new : (u : Option Run) (i a n : ℕ) (rs : List Run) → opens a ≡ true → w a ≡ some i
-          → P (some (newRun i a)) (suc a) n rs → P u a (suc n) (closing u rs)) where
+      → P (some (newRun i a)) (suc a) n rs → P u a (suc n) (closing u rs)) where
     pub by-slot : (n a : ℕ) (u : Option Run) → P u a n (runsIn u a n)
     unfolding keep row
     by-slot zero a u = rw (runs-over u) (over u a)
     by-slot (suc n) a u =
         by-test (opens a)
         (λ o.
-            let xs : List Turn = map (turnOf w) (keep opens (row (suc a) n)) in
-            rw (o, when)
-            (by-turn (λ u. P u a (suc n) (runsFrom u (turnOf w a ∷ xs))) (turnOf w a)
-                (λ u e. rw (runs-rest (turnOf w a) xs u e) (rests u a n (runsFrom none xs) o e (by-slot n (suc a) none)))
-                (λ r e.
-                    rw (runs-longer (turnOf w a) xs r e)
-                    (longer r a n (runsFrom (some (longerRun r a)) xs) o e (by-slot n (suc a) (some (longerRun r a)))))
-                (λ u i e h.
-                    rw (runs-new (turnOf w a) xs u i e h)
-                    (new u i a n (runsFrom (some (newRun i a)) xs) o e (by-slot n (suc a) (some (newRun i a)))))
-                u))
+        let xs : List Turn = map (turnOf w) (keep opens (row (suc a) n)) in
+        rw (o, when)
+        (by-turn (λ u. P u a (suc n) (runsFrom u (turnOf w a ∷ xs))) (turnOf w a)
+        (λ u e. rw (runs-rest (turnOf w a) xs u e) (rests u a n (runsFrom none xs) o e (by-slot n (suc a) none)))
+        (λ r e.
+        rw (runs-longer (turnOf w a) xs r e)
+        (longer r a n (runsFrom (some (longerRun r a)) xs) o e (by-slot n (suc a) (some (longerRun r a)))))
+        (λ u i e h.
+        rw (runs-new (turnOf w a) xs u i e h)
+        (new u i a n (runsFrom (some (newRun i a)) xs) o e (by-slot n (suc a) (some (newRun i a)))))
+        u))
         (λ o. rw (o, when) (shut u a n (runsIn u (suc a) n) o (by-slot n (suc a) u)))
 
   -- a run tells the truth: it is not empty, begins and ends with a slot of work, in each open slot of it the desk works
@@ -75,55 +75,55 @@ module _ (opens : ℕ → Bool) (w : Plan) where
 
   good-shut : (u : Option Run) (a : ℕ) → opens a ≡ false → Good u a → Good u (suc a)
   good-shut none a o g = tt
-  good-shut (some r) a o g =
-      ( g .0
-      , omega (arith, g .1)
-      , λ t h k.
-          by-le a t
-          (λ z. let e : t ≡ a = omega arith in rw e o)
-          (λ z. g .2 t h z)
-      )
+  good-shut (some r) a o g = (
+    g .0,
+    omega (arith, g .1),
+    λ t h k.
+        by-le a t
+        (λ z. let e : t ≡ a = omega arith in rw e o)
+        (λ z. g .2 t h z),
+  )
 
   good-longer : (r : Run) (a : ℕ) → opens a ≡ true → w a ≡ some (r .piece) → Good (some r) a
       → Good (some (longerRun r a)) (suc a)
-  good-longer r a o e g =
-      ( record {
-          begins = g .0 .begins;
-          ends = (a, add-one a, omega (arith, g .0 .ends .2, g .0 .ends .1, g .1), o, e);
-          works = λ t h k p.
-              by-le a t
-              (λ z. let q : t ≡ a = omega arith in rw q e)
-              (λ z.
-                  by-le (r .until) t
-                  (λ y. clash p (g .2 t y z))
-                  (λ y. g .0 .works t h y p));
-          counts =
-              omega
-              ( arith
-              , g .0 .counts
-              , ap (cnt opens) (add-one a)
-              , cnt-hit opens a o
-              , cnt-mono opens (r .until) a (g .1)
-              , cnt-gain opens (λ t. false) (r .until) a (g .1) (λ t h k p. clash p (g .2 t h k))
-              , cnt-false (λ t. false) a (λ t h. refl)
-              , cnt-false (λ t. false) (r .until) (λ t h. refl)
-              )
-        }
-      , omega arith
-      , λ t h k. absurd (omega arith)
-      )
+  good-longer r a o e g = (
+    record {
+      begins = g .0 .begins;
+      ends = (a, add-one a, omega (arith, g .0 .ends .2, g .0 .ends .1, g .1), o, e);
+      works = λ t h k p.
+          by-le a t
+          (λ z. let q : t ≡ a = omega arith in rw q e)
+          (λ z.
+          by-le (r .until) t
+          (λ y. clash p (g .2 t y z))
+          (λ y. g .0 .works t h y p));
+      counts =
+          omega (
+            arith,
+            g .0 .counts,
+            ap (cnt opens) (add-one a),
+            cnt-hit opens a o,
+            cnt-mono opens (r .until) a (g .1),
+            cnt-gain opens (λ t. false) (r .until) a (g .1) (λ t h k p. clash p (g .2 t h k)),
+            cnt-false (λ t. false) a (λ t h. refl),
+            cnt-false (λ t. false) (r .until) (λ t h. refl),
+          );
+    },
+    omega arith,
+    λ t h k. absurd (omega arith),
+  )
 
   good-new : (i a : ℕ) → opens a ≡ true → w a ≡ some i → Good (some (newRun i a)) (suc a)
-  good-new i a o e =
-      ( record {
-          begins = e;
-          ends = (a, add-one a, omega arith, o, e);
-          works = λ t h k p. let q : t ≡ a = omega arith in rw q e;
-          counts = omega (arith, ap (cnt opens) (add-one a), cnt-hit opens a o)
-        }
-      , omega arith
-      , λ t h k. absurd (omega arith)
-      )
+  good-new i a o e = (
+    record {
+      begins = e;
+      ends = (a, add-one a, omega arith, o, e);
+      works = λ t h k p. let q : t ≡ a = omega arith in rw q e;
+      counts = omega (arith, ap (cnt opens) (add-one a), cnt-hit opens a o);
+    },
+    omega arith,
+    λ t h k. absurd (omega arith),
+  )
 
   pub runs-good : (n a : ℕ) (u : Option Run) → Good u a → (r : Run) → r ∈ runsIn u a n → TrueRun r
   runs-good =

@@ -1,11 +1,11 @@
--- The score of a row of turns: each run counts one, and one more where the desk wakes with it (a turn with work behind
--- one without). So a row with runs has more score than runs. Assumes nothing.
-use mathlib.Core.Path.{_≡_, refl, sym, ap, _∙_}
+-- The score of a row of turns: each run counts one, and one more where the desk wakes with it (a turn with work
+-- behind one without). So a row with runs has more score than runs. Assumes nothing.
+use mathlib.Core.Path.{_≡_, refl}
 use mathlib.Core.Logic.{_⊎_, inl, inr, ⊎-elim}
-use mathlib.Core.Bool.{Bool, true, false, not}
+use mathlib.Core.Bool.{false, not}
 use mathlib.Core.Option.{Option, none, some}
 use mathlib.Core.List.{List, [], _∷_, map}
-use Prim.Native.Nat.{ℕ, zero, suc, _+_, _≤_}
+use Prim.Native.Nat.{ℕ, suc, _+_, _≤_}
 use native.Mathlib.Omega.{arith}
 use lib.ListN.{length}
 use lib.Dec.{eqb}

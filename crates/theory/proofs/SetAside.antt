@@ -1,23 +1,28 @@
 -- The entry of a block that is set aside is the least urgent of the block: it has no direct follower there, since a
--- follower is less urgent. So the clause on direct links never changes who is set aside. The others are a shorter list.
--- Assumes nothing.
+-- follower is less urgent. So the clause on direct links never changes who is set aside. The others are a shorter
+-- list. Assumes nothing.
 use mathlib.Core.Path.{_≡_, refl, sym, ap, _∙_}
 use mathlib.Core.Bool.{Bool, true, false, not}
-use mathlib.Core.Option.{Option, none, some}
+use mathlib.Core.Option.{some}
 use mathlib.Core.List.{List, [], _∷_}
 use mathlib.Core.List.{List·Memᴰ·head as here, List·Memᴰ·tail as there}
-use Prim.Native.Nat.{ℕ, suc, _≤_, _<_}
+use Prim.Native.Nat.{ℕ, _<_}
 use native.Mathlib.Omega.{arith}
 use lib.Dec.{eqb}
 use lib.ListN.{length}
-use borrow.Author.Tests.{eqb-true, eqb-false, eq-eqb, ne-eqb, not-true}
+use borrow.Author.Tests.{eqb-false, eq-eqb, ne-eqb, not-true}
 use Rattle.rules.specs.Words.{when, keep, oneOf}
 use Rattle.rules.specs.Entries.{Entry}
 use Rattle.rules.specs.Blocks.{Block, costsLess, cheaper, cheapest, withoutFollower, setAside, others}
 use Rattle.laws.proofs.Words.{by-test, when-true, when-false, keep-mem, mem-keep, keep-length, oneOf-found}
-use Rattle.theory.proofs.Cases.{by-eq, clash}
+use Rattle.theory.proofs.Cases.{by-eq}
 use Rattle.theory.proofs.Lists.{_∈_, by-mem, Distinct, same-number}
 use Rattle.theory.proofs.EntryOrder.{number, urgent, entry-urgency}
+
+-- a piece is sooner than each that follows it by a direct link
+abbrev pub LinksAhead : (ℕ → ℕ → Bool) → List Entry → Type 0
+LinksAhead follows es =
+    (e f : Entry) → e ∈ es → f ∈ es → follows (e .number) (f .number) ≡ true → urgent e f ≡ true
 
 -- z is the least urgent of the list
 pub record Last (es : List Entry) (z : Entry) : Type 0 where
@@ -27,42 +32,42 @@ pub record Last (es : List Entry) (z : Entry) : Type 0 where
 cheapest-last : (e : Entry) (es : List Entry) → Distinct number (e ∷ es)
     → (z : Entry) × (cheapest (e ∷ es) ≡ some z) × Last (e ∷ es) z
 unfolding cheapest cheaper
-cheapest-last e [] d =
-    ( e
-    , refl
-    , record {
-        member = here refl;
-        behind = λ f m apart. by-mem m (λ p. absurd (apart (ap number p))) (λ n. elim n [ ])
-      }
-    )
+cheapest-last e [] d = (
+  e,
+  refl,
+  record {
+    member = here refl;
+    behind = λ f m apart. by-mem m (λ p. absurd (apart (ap number p))) (λ n. elim n [ ]);
+  },
+)
 cheapest-last e (y ∷ es) d =
     let r = cheapest-last y es (d .1) in
     let z : Entry = r .0 in
     by-test (costsLess z e)
+    (λ h. (
+      z,
+      ap some (ap (cheaper e) (r .1) ∙ when-true (costsLess z e) z e h),
+      record {
+        member = there (r .2 .member);
+        behind = λ f m apart. by-mem m (λ p. rw p h) (λ n. r .2 .behind f n apart);
+      },
+    ))
     (λ h.
-        ( z
-        , ap some (ap (cheaper e) (r .1) ∙ when-true (costsLess z e) z e h)
-        , record {
-            member = there (r .2 .member);
-            behind = λ f m apart. by-mem m (λ p. rw p h) (λ n. r .2 .behind f n apart)
-          }
-        ))
-    (λ h.
-        let ahead : urgent z e ≡ true =
-            entry-urgency .total e z (λ q. d .0 z (r .2 .member) (sym q)) h in
-        ( e
-        , ap some (ap (cheaper e) (r .1) ∙ when-false (costsLess z e) z e h)
-        , record {
-            member = here refl;
-            behind = λ f m apart.
-                by-mem m
-                (λ p. absurd (apart (ap number p)))
-                (λ n.
-                    by-eq (f .number) (z .number)
-                    (λ q. rw (same-number number (y ∷ es) (d .1) f z n (r .2 .member) q) ahead)
-                    (λ q. entry-urgency .trans f z e (r .2 .behind f n q) ahead))
-          }
-        ))
+    let ahead : urgent z e ≡ true =
+    entry-urgency .total e z (λ q. d .0 z (r .2 .member) (sym q)) h in (
+      e,
+      ap some (ap (cheaper e) (r .1) ∙ when-false (costsLess z e) z e h),
+      record {
+        member = here refl;
+        behind = λ f m apart.
+            by-mem m
+            (λ p. absurd (apart (ap number p)))
+            (λ n.
+            by-eq (f .number) (z .number)
+            (λ q. rw (same-number number (y ∷ es) (d .1) f z n (r .2 .member) q) ahead)
+            (λ q. entry-urgency .trans f z e (r .2 .behind f n q) ahead));
+      },
+    ))
 
 some-last : (es : List Entry) → Distinct number es → (e : Entry) → e ∈ es
     → (z : Entry) × (cheapest es ≡ some z) × Last es z
@@ -79,8 +84,8 @@ keep-shorter p (e ∷ es) z m h =
     by-mem m
     (λ q. rw (ap p (sym q) ∙ h, when) (omega (arith, keep-length p es)))
     (λ n.
-        let ih : length (keep p es) < length es = keep-shorter p es z n h in
-        by-test (p e) (λ k. rw (k, when) (omega arith)) (λ k. rw (k, when) (omega arith)))
+    let ih : length (keep p es) < length es = keep-shorter p es z n h in
+    by-test (p e) (λ k. rw (k, when) (omega arith)) (λ k. rw (k, when) (omega arith)))
 
 -- the least urgent of a list is one entry, also if some others are left out
 last-same : (es ks : List Entry) → Distinct number es → ((f : Entry) → f ∈ ks → f ∈ es) → (y z : Entry)
@@ -89,8 +94,8 @@ last-same es ks d part y z a b m =
     by-eq (z .number) (y .number)
     (λ q. same-number number es d z y (part z (b .member)) (a .member) q)
     (λ q.
-        absurd
-        (entry-urgency .asym y z (b .behind y m (λ p. q (sym p))) (a .behind z (part z (b .member)) q)))
+    absurd
+    (entry-urgency .asym y z (b .behind y m (λ p. q (sym p))) (a .behind z (part z (b .member)) q)))
 
 -- numbers stay different in what is kept
 pub keep-distinct : (p : Entry → Bool) (es : List Entry) → Distinct number es → Distinct number (keep p es)
@@ -101,8 +106,7 @@ keep-distinct p (e ∷ es) d =
     (λ h. rw (h, when) (λ f m. d .0 f (mem-keep p es f m .0), keep-distinct p es (d .1)))
     (λ h. rw (h, when) (keep-distinct p es (d .1)))
 
-module _ (follows : ℕ → ℕ → Bool) (es : List Entry) (d : Distinct number es)
-    (links : (e f : Entry) → e ∈ es → f ∈ es → follows (e .number) (f .number) ≡ true → urgent e f ≡ true) where
+module _ (follows : ℕ → ℕ → Bool) (es : List Entry) (d : Distinct number es) (links : LinksAhead follows es) where
   abbrev free : Entry → Bool
   free e = not (oneOf (λ f. follows (e .number) (f .number)) es)
 
@@ -111,13 +115,13 @@ module _ (follows : ℕ → ℕ → Bool) (es : List Entry) (d : Distinct number
   last-free z l =
       by-test (oneOf (λ f. follows (z .number) (f .number)) es)
       (λ h.
-          let r = oneOf-found (λ f. follows (z .number) (f .number)) es h in
-          let after : urgent z (r .0) ≡ true = links z (r .0) (l .member) (r .1) (r .2) in
-          by-eq (r .0 .number) (z .number)
-          (λ q.
-              let same : r .0 ≡ z = same-number number es d (r .0) z (r .1) (l .member) q in
-              absurd (entry-urgency .asym z z (rw same at after) (rw same at after)))
-          (λ q. absurd (entry-urgency .asym z (r .0) after (l .behind (r .0) (r .1) q))))
+      let r = oneOf-found (λ f. follows (z .number) (f .number)) es h in
+      let after : urgent z (r .0) ≡ true = links z (r .0) (l .member) (r .1) (r .2) in
+      by-eq (r .0 .number) (z .number)
+      (λ q.
+      let same : r .0 ≡ z = same-number number es d (r .0) z (r .1) (l .member) q in
+      absurd (entry-urgency .asym z z (rw same at after) (rw same at after)))
+      (λ q. absurd (entry-urgency .asym z (r .0) after (l .behind (r .0) (r .1) q))))
       (λ h. rw h)
 
   -- THE CLAUSE ON DIRECT LINKS NEVER CHANGES WHO IS SET ASIDE
@@ -132,13 +136,12 @@ module _ (follows : ℕ → ℕ → Bool) (es : List Entry) (d : Distinct number
           let z = some-last (keep free es) (keep-distinct free es d) (y .0) kept in
           z .1
           ∙ ap some
-            (last-same es (keep free es) d (λ f n. mem-keep free es f n .0) (y .0) (z .0) (y .2) (z .2) kept)
+          (last-same es (keep free es) d (λ f n. mem-keep free es f n .0) (y .0) (z .0) (y .2) (z .2) kept)
           ∙ sym (y .1)
 
 -- who is set aside of a block, and the others
 module _ (follows : ℕ → ℕ → Bool) (B : Block) (d : Distinct number (B .members))
-    (links : (e f : Entry) → e ∈ B .members → f ∈ B .members → follows (e .number) (f .number) ≡ true
-        → urgent e f ≡ true) where
+    (links : LinksAhead follows (B .members)) where
   pub set-aside : (e : Entry) → e ∈ B .members → (z : Entry) × (setAside follows B ≡ some z) × Last (B .members) z
   unfolding setAside
   set-aside e m =

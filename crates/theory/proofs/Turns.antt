@@ -1,5 +1,5 @@
--- The runs of a plan, turn by turn: what `runsFrom` of the rules does with one turn more, as three cases. All that is
--- proved of runs goes by these cases. Assumes nothing.
+-- The runs of a plan, turn by turn: what `runsFrom` of the rules does with one turn more, as three cases. All that
+-- is proved of runs goes by these cases. Assumes nothing.
 use mathlib.Core.Path.{_≡_, refl, sym, ap, _∙_}
 use mathlib.Core.Bool.{Bool, true, false}
 use mathlib.Core.Option.{Option, none, some}
@@ -67,7 +67,9 @@ module _ (x : Turn) (xs : List Turn) where
   pub runs-longer : (r : Run) → x .who ≡ some (r .piece)
       → runsFrom (some r) (x ∷ xs) ≡ runsFrom (some (longerRun r (x .slot))) xs
   unfolding runsFrom goesOn nextRun when
-  runs-longer r e = let g : eqb (r .piece) (r .piece) ≡ true = eq-eqb (r .piece) (r .piece) refl in rw (e, runsFrom, g, when)
+  runs-longer r e =
+      let g : eqb (r .piece) (r .piece) ≡ true = eq-eqb (r .piece) (r .piece) refl in
+      rw (e, runsFrom, g, when)
 
   -- another run begins
   pub runs-new : (u : Option Run) (i : ℕ) → x .who ≡ some i → goesOn u i ≡ false

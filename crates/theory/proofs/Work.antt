@@ -1,18 +1,17 @@
--- The work on a set of entries: the slots in which the number worked on is that of an entry of the list in the set X.
--- It is the sum of what was done of each of them. Assumes nothing.
-use mathlib.Core.Path.{_≡_, refl, sym, ap, _∙_}
-use mathlib.Core.Bool.{Bool, true, false, _&&_, _||_}
-use mathlib.Core.Option.{Option, none, some, Option·some-injective}
+-- The work on a set of entries: the slots in which the number worked on is that of an entry of the list in the set
+-- X. It is the sum of what was done of each of them. Assumes nothing.
+use mathlib.Core.Path.{_≡_, refl, sym, _∙_}
+use mathlib.Core.Bool.{Bool, true, false, _&&_}
+use mathlib.Core.Option.{Option, Option·some-injective}
 use mathlib.Core.List.{List, [], _∷_}
-use mathlib.Core.List.{List·Memᴰ·head as here, List·Memᴰ·tail as there}
-use Prim.Native.Nat.{ℕ, _+_, _≤_, _<_}
+use Prim.Native.Nat.{ℕ, _≤_}
 use native.Mathlib.Omega.{arith}
-use Rattle.laws.proofs.Words.{and-true, and-intro, or-left, or-right}
-use Rattle.theory.proofs.Cases.{clash, by-or, test-ext}
+use Rattle.rules.specs.Words.{isIt, oneOf, sum}
+use Rattle.laws.proofs.Words.{and-true, and-intro, oneOf-intro, oneOf-found}
+use Rattle.theory.proofs.Cases.{test-ext}
 use Rattle.theory.proofs.Count.{cnt, cnt-or, cnt-false}
-use Rattle.theory.proofs.Lists.{_∈_, by-mem, Distinct, sumOf}
+use Rattle.theory.proofs.Lists.{_∈_, Distinct, sumOf}
 use Rattle.theory.proofs.Plans as Plans
-use Rattle.rules.specs.Words.{isIt, sum}
 use Rattle.theory.proofs.Plans.{Plan, busy, did}
 
 -- a number where the test passes
@@ -36,26 +35,20 @@ cnt-part false f t = cnt-false (λ s. false) t (λ k h. refl)
 
 module _ {E : Type 0} (num : E → ℕ) (X : E → Bool) where
   unfoldable pub on : List E → Option ℕ → Bool
-  on [] o = false
-  on (x ∷ L) o = (X x && isIt o (num x)) || on L o
+  on L o = oneOf (λ e. X e && isIt o (num e)) L
 
   pub on-when : (L : List E) (o : Option ℕ) (e : E) → e ∈ L → X e ≡ true → isIt o (num e) ≡ true → on L o ≡ true
   unfolding on
-  on-when (x ∷ L) o e m h k =
-      by-mem m
-      (λ p.
-      or-left (X x && isIt o (num x)) (on L o)
-      (and-intro (X x) (isIt o (num x)) (rw p at h) (rw p at k)))
-      (λ n. or-right (X x && isIt o (num x)) (on L o) (on-when L o e n h k))
+  on-when L o e m h k =
+      oneOf-intro (λ f. X f && isIt o (num f)) L e m (and-intro (X e) (isIt o (num e)) h k)
 
   pub on-some : (L : List E) (o : Option ℕ) → on L o ≡ true
       → (e : E) × (e ∈ L) × (X e ≡ true) × (isIt o (num e) ≡ true)
   unfolding on
-  on-some [] o h = clash h refl
-  on-some (x ∷ L) o h =
-      by-or (X x && isIt o (num x)) (on L o) h
-      (λ k. let b = and-true (X x) (isIt o (num x)) k in (x, here refl, b .0, b .1))
-      (λ k. let r = on-some L o k in (r .0, there (r .1), r .2, r .3))
+  on-some L o h =
+      let r = oneOf-found (λ f. X f && isIt o (num f)) L h in
+      let b = and-true (X (r .0)) (isIt o (num (r .0))) (r .2) in
+      (r .0, r .1, b .0, b .1)
 
   pub on-busy : (L : List E) (o : Option ℕ) → on L o ≡ true → busy o ≡ true
   on-busy L o h = let r = on-some L o h in Plans.works-busy o (num (r .0)) (r .3)
@@ -75,7 +68,7 @@ module _ {E : Type 0} (num : E → ℕ) (X : E → Bool) where
   -- the work on X is the sum over the entries of X
   pub work-sum : (L : List E) → Distinct num L → (w : Plan) (t : ℕ)
       → cnt (λ s. on L (w s)) t ≡ sumOf (λ e. part (X e) (did w (num e) t)) L
-  unfolding on sum
+  unfolding on oneOf sum
   work-sum [] d w t = cnt-false (λ s. false) t (λ k h. refl)
   work-sum (x ∷ L) d w t =
       omega (
