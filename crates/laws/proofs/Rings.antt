@@ -43,8 +43,8 @@ module _ (follows : ℕ → ℕ → Bool) where
       (λ e. via-leads k i j e) (λ e. via-leads k i k e) (λ e. via-leads k k j e)
     where
       go : (via follows k i j ≡ true) ⊎ ((via follows k i k && via follows k k j) ≡ true)
-        → (via follows k i j ≡ true → Leads follows i j) → (via follows k i k ≡ true → Leads follows i k)
-        → (via follows k k j ≡ true → Leads follows k j) → Leads follows i j
+          → (via follows k i j ≡ true → Leads follows i j) → (via follows k i k ≡ true → Leads follows i k)
+          → (via follows k k j ≡ true → Leads follows k j) → Leads follows i j
       go (inl e) f g h = f e
       go (inr e) f g h = let p = and-true (via follows k i k) (via follows k k j) e in leads-on (g (p .0)) (h (p .1))
 
@@ -85,10 +85,10 @@ module _ (follows : ℕ → ℕ → Bool) where
 
   -- Two ways put together at piece k, by the ways through pieces below m that are put together there already.
   together : (m i k j : ℕ) → Split m i k → Split m k j
-    → (via follows m i k ≡ true → via follows m k j ≡ true → via follows m i j ≡ true)
-    → (via follows m i k ≡ true → via follows m k m ≡ true → via follows m i m ≡ true)
-    → (via follows m m k ≡ true → via follows m k j ≡ true → via follows m m j ≡ true)
-    → via follows (suc m) i j ≡ true
+      → (via follows m i k ≡ true → via follows m k j ≡ true → via follows m i j ≡ true)
+      → (via follows m i k ≡ true → via follows m k m ≡ true → via follows m i m ≡ true)
+      → (via follows m m k ≡ true → via follows m k j ≡ true → via follows m m j ≡ true)
+      → via follows (suc m) i j ≡ true
   unfolding Split
   together m i k j (inl a) (inl b) f g h = straight m i j (f a b)
   together m i k j (inl a) (inr b) f g h = through m i j (g a (b .0)) (b .1)
@@ -100,9 +100,9 @@ module _ (follows : ℕ → ℕ → Bool) where
   via-on zero i k j h p q = absurd (omega arith)
   via-on (suc m) i k j h p q = by-test (ltb k m)
       (λ e. together m i k j (split m i k p) (split m k j q) (via-on m i k j (ltb-true k m e))
-        (via-on m i k m (ltb-true k m e)) (via-on m m k j (ltb-true k m e)))
+      (via-on m i k m (ltb-true k m e)) (via-on m m k j (ltb-true k m e)))
       (λ e. let z : k ≡ m = omega (arith, ltb-false k m e) in
-        through m i j (to-last m i (split m i m (rw z at p))) (from-last m j (split m m j (rw z at q))))
+      through m i j (to-last m i (split m i m (rw z at p))) (from-last m j (split m m j (rw z at q))))
 
   -- Links lead between the n pieces only.
   module _ (n : ℕ) (inside : (i j : ℕ) → follows i j ≡ true → (i < n) × (j < n)) where
@@ -138,23 +138,27 @@ module _ (follows : ℕ → ℕ → Bool) where
           (λ p m h. via-on n i j p (inside i j e .1) (via-more n i j e) h)
           j (below-mem n j (inside i j e .1)) (free j (inside i j e .1)) (via-more n i j e)
 
+      pub ahead-few : (i : ℕ) → ahead i ≤ n
+      unfolding ahead
+      ahead-few i = omega (arith, keep-length (λ p. via follows n p i) (below n), length-below n)
+
       -- A piece does not lead to itself, so it leads to fewer than n.
       pub behind-few : (i : ℕ) → i < n → behind i < n
       unfolding behind
       behind-few i h =
           let all : length (keep (λ p. via follows n i p) (below n)) < length (keep (λ p. true) (below n)) =
-              keep-lt (λ p. via follows n i p) (λ p. true) (below n) (λ p m k. refl) i (below-mem n i h) (free i h) refl in
+          keep-lt (λ p. via follows n i p) (λ p. true) (below n) (λ p m k. refl) i (below-mem n i h) (free i h) refl in
           omega (arith, keep-length (λ p. true) (below n), length-below n)
 
       -- What holds of a piece once it holds of every piece before it holds of all; and so for the pieces after it.
       pub along-before : {P : ℕ → Type 0} → ((j : ℕ) → j < n → ((i : ℕ) → follows i j ≡ true → P i) → P j)
-        → (j : ℕ) → j < n → P j
+          → (j : ℕ) → j < n → P j
       along-before {P} step =
           by-measure {P = λ j. j < n → P j} ahead
           (λ j smaller l. step j l (λ i e. smaller i (ahead-falls i j e) (inside i j e .0)))
 
       pub along-after : {P : ℕ → Type 0} → ((i : ℕ) → i < n → ((j : ℕ) → follows i j ≡ true → P j) → P i)
-        → (i : ℕ) → i < n → P i
+          → (i : ℕ) → i < n → P i
       along-after {P} step =
           by-measure {P = λ i. i < n → P i} behind
           (λ i smaller l. step i l (λ j e. smaller j (behind-falls i j e) (inside i j e .1)))
@@ -167,13 +171,13 @@ module _ (follows : ℕ → ℕ → Bool) where
       (λ e. go e m (first-none n xs (rw (e, when) at h)))
     where
       go : via follows n x x ≡ false → Mem i (x ∷ xs) → ((j : ℕ) → Mem j xs → via follows n j j ≡ false)
-        → via follows n i i ≡ false
+          → via follows n i i ≡ false
       go e (here q) ih = ap (λ k. via follows n k k) q ∙ e
       go e (there k) ih = ih i k
 
   -- The first of numbers in a row that leads to itself: the ones below it in the row do not.
   first-some : (n k a i : ℕ) → firstOnRing follows n (row a k) ≡ some i
-    → (via follows n i i ≡ true) × (a ≤ i) × (i < a + k) × ((j : ℕ) → a ≤ j → j < i → via follows n j j ≡ false)
+      → (via follows n i i ≡ true) × (a ≤ i) × (i < a + k) × ((j : ℕ) → a ≤ j → j < i → via follows n j j ≡ false)
   unfolding firstOnRing row when
   first-some n zero a i h = none-or-some h
   first-some n (suc k) a i h = by-test (via follows n a a)
@@ -181,21 +185,27 @@ module _ (follows : ℕ → ℕ → Bool) where
       (λ e. later e (first-some n k (suc a) i (rw (e, when) at h)))
     where
       found : via follows n a a ≡ true → a ≡ i
-        → (via follows n i i ≡ true) × (a ≤ i) × (i < a + suc k) × ((j : ℕ) → a ≤ j → j < i → via follows n j j ≡ false)
+          → (via follows n i i ≡ true) × (a ≤ i) × (i < a + suc k) × ((j : ℕ) → a ≤ j → j < i → via follows n j j ≡ false)
       found e q = (rw q at e, omega arith, omega arith, λ j p r. absurd (omega arith))
+
       later : via follows n a a ≡ false
-        → (via follows n i i ≡ true) × (suc a ≤ i) × (i < suc a + k) × ((j : ℕ) → suc a ≤ j → j < i → via follows n j j ≡ false)
-        → (via follows n i i ≡ true) × (a ≤ i) × (i < a + suc k) × ((j : ℕ) → a ≤ j → j < i → via follows n j j ≡ false)
-      later e w = (w .0, omega (arith, w .1), omega (arith, w .2), λ j p r. by-test (ltb a j)
-          (λ q. w .3 j (ltb-true a j q) r)
-          (λ q. let z : j ≡ a = omega (arith, ltb-false a j q) in ap (λ x. via follows n x x) z ∙ e))
+          → (via follows n i i ≡ true) × (suc a ≤ i) × (i < suc a + k) × ((j : ℕ) → suc a ≤ j → j < i → via follows n j j ≡ false)
+          → (via follows n i i ≡ true) × (a ≤ i) × (i < a + suc k) × ((j : ℕ) → a ≤ j → j < i → via follows n j j ≡ false)
+      later e w = (
+        w .0,
+        omega (arith, w .1),
+        omega (arith, w .2),
+        λ j p r. by-test (ltb a j)
+            (λ q. w .3 j (ltb-true a j q) r)
+            (λ q. let z : j ≡ a = omega (arith, ltb-false a j q) in ap (λ x. via follows n x x) z ∙ e),
+      )
 
   pub ring-free : (n : ℕ) → lowestOnRing follows n ≡ none → (i : ℕ) → i < n → via follows n i i ≡ false
   unfolding lowestOnRing
   ring-free n h i l = first-none n (below n) h i (below-mem n i l)
 
   pub ring-found : (n i : ℕ) → lowestOnRing follows n ≡ some i
-    → (i < n) × (via follows n i i ≡ true) × ((j : ℕ) → j < i → via follows n j j ≡ false)
+      → (i < n) × (via follows n i i ≡ true) × ((j : ℕ) → j < i → via follows n j j ≡ false)
   unfolding lowestOnRing below
   ring-found n i h =
       let w = first-some n n 0 i h in

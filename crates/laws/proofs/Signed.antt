@@ -2,7 +2,7 @@
 -- natural ones, which the arithmetic of the checker decides.
 use Prim.Native.Nat.{ℕ, zero, suc, _+_, _-_, _≤_, _<_}
 use mathlib.Core.Bool.{Bool, true, false}
-use mathlib.Core.List.{List, [], _∷_, List·Memᴰ as Mem, List·Memᴰ·head as here, List·Memᴰ·tail as there}
+use mathlib.Core.List.{List, [], _∷_, map, List·Memᴰ as Mem, List·Memᴰ·head as here, List·Memᴰ·tail as there}
 use mathlib.Core.Path.{_≡_, refl, sym, ap, _∙_}
 use native.Mathlib.Omega.{arith}
 use borrow.Author.Tests.{ltb-true, ltb-false, leb-true, leb-false, lt-ltb, le-leb}
@@ -12,11 +12,11 @@ use lib.Signed.{ltZ, leZ}
 use Rattle.rules.specs.Words.{when, lesserZ, greaterZ, leastZ, greatestZ}
 use Rattle.laws.proofs.Words.{by-test, true-or-false, on-tail}
 
-pub up : ℤ → ℕ
+unfoldable pub up : ℤ → ℕ
 up (pos n) = n
 up (negsuc n) = 0
 
-pub dn : ℤ → ℕ
+unfoldable pub dn : ℤ → ℕ
 dn (pos n) = 0
 dn (negsuc n) = suc n
 
@@ -93,6 +93,14 @@ minus (negsuc a) (negsuc k) = by-test (ltb (suc k) (suc a))
     (λ e. rw e (omega (arith, ltb-true (suc k) (suc a) e)))
     (λ e. rw e (omega (arith, ltb-false (suc k) (suc a) e)))
 
+-- So many below zero.
+unfoldable pub below-zero : ℕ → ℤ
+below-zero k = pos 0 -ℤ pos k
+
+pub below-zero-is : (k : ℕ) → dn (below-zero k) ≡ up (below-zero k) + k
+unfolding below-zero up dn
+below-zero-is k = omega (arith, minus (pos 0) (pos k))
+
 -- The lesser and the greater of two.
 pub lesser-left : (a b : ℤ) → lesserZ a b ≼ a
 unfolding lesserZ
@@ -137,6 +145,14 @@ unfolding leastZ
 least-most z c [] h k = h
 least-most z c (x ∷ xs) h k =
     lesser-most x (leastZ z xs) c (k x (here refl)) (least-most z c xs h (on-tail x xs k))
+
+-- The same over a table.
+pub least-within : {A : Type 0} (z c : ℤ) (f : A → ℤ) (l : List A) → c ≼ z → ((x : A) → Mem x l → c ≼ f x)
+    → c ≼ leastZ z (map f l)
+unfolding leastZ
+least-within z c f [] h k = h
+least-within z c f (x ∷ xs) h k =
+    lesser-most (f x) (leastZ z (map f xs)) c (k x (here refl)) (least-within z c f xs h (on-tail x xs k))
 
 pub greatestZ-start : (z : ℤ) (l : List ℤ) → z ≼ greatestZ z l
 unfolding greatestZ

@@ -76,22 +76,24 @@ module _ (J : Job) where
           go : (j : ℕ) → Mem j (x ∷ xs) → (j ≡ k → ⊥) → sooner J k j ≡ true
           go j (here z) ne = rw z e
           go j (there m) ne = w .1 j m ne
+
       own : sooner J k x ≡ false → x ≡ i → First i (x ∷ xs)
       own e q = rw (← q) (here refl, go)
         where
           after-k : (j : ℕ) → sooner J x k ≡ true → (j ≡ k → ⊥) → Mem j xs → sooner J x j ≡ true
           after-k j s ne m = sooner-trans J x k j s (w .1 j m ne)
+
           go : (j : ℕ) → Mem j (x ∷ xs) → (j ≡ x → ⊥) → sooner J x j ≡ true
           go j (here z) ne = absurd (ne z)
           go j (there m) ne = by-test (eqb k x)
               (λ z. let same : k ≡ x = eqb-true k x z in rw same at (w .1 j m (λ r. ne (r ∙ same))))
               (λ z. let s : sooner J x k ≡ true = sooner-total J k x (eqb-false k x z) e in
-                by-test (eqb j k)
-                (λ r. rw (eqb-true j k r) s)
-                (λ r. after-k j s (eqb-false j k r) m))
+              by-test (eqb j k)
+              (λ r. rw (eqb-true j k r) s)
+              (λ r. after-k j s (eqb-false j k r) m))
 
   pub urgent-first : (l : List ℕ) (i : ℕ) → mostUrgent J l ≡ some i
-    → Mem i l × ((j : ℕ) → Mem j l → (j ≡ i → ⊥) → sooner J i j ≡ true)
+      → Mem i l × ((j : ℕ) → Mem j l → (j ≡ i → ⊥) → sooner J i j ≡ true)
   unfolding mostUrgent preferred First
   urgent-first [] i h = none-or-some h
   urgent-first (x ∷ xs) i h = by-choice (mostUrgent J xs)
@@ -142,11 +144,11 @@ module _ (J : Job) where
   unfolding choice
   choice-some W d t i h = by-test (isOpen J d t)
       (λ e. let w = urgent-first (waiting J W d t) i (sym (when-true _ _ none e) ∙ h) in
-        record {
-          opened = e;
-          waits = mem-waiting W d t i (w .0);
-          first = λ j m ne. w .1 j (waiting-mem W d t j m) ne;
-        })
+      record {
+        opened = e;
+        waits = mem-waiting W d t i (w .0);
+        first = λ j m ne. w .1 j (waiting-mem W d t j m) ne;
+      })
       (λ e. none-or-some (sym (when-false _ (mostUrgent J (waiting J W d t)) none e) ∙ h))
 
   pub choice-none : (W : List Progress) (d t : ℕ) → isOpen J d t ≡ true → choice J W d t ≡ none → (i : ℕ) → Waits W d t i → ⊥
@@ -159,10 +161,10 @@ module _ (J : Job) where
   chosen-choice W d t i c = by-choice (choice J W d t)
       (λ e. absurd (choice-none W d t (c .opened) e i (c .waits)))
       (λ k e. by-test (eqb k i)
-        (λ q. e ∙ ap some (eqb-true k i q))
-        (λ q. let ne : k ≡ i → ⊥ = eqb-false k i q in
-          let o : Chosen W d t k = choice-some W d t k e in
-          true-or-false (sym (c .first k (o .waits) ne) ∙ sooner-asym J k i (o .first i (c .waits) (λ r. ne (sym r))))))
+      (λ q. e ∙ ap some (eqb-true k i q))
+      (λ q. let ne : k ≡ i → ⊥ = eqb-false k i q in
+      let o : Chosen W d t k = choice-some W d t k e in
+      true-or-false (sym (c .first k (o .waits) ne) ∙ sooner-asym J k i (o .first i (c .waits) (λ r. ne (sym r))))))
 
   pub resting-choice : (W : List Progress) (d t : ℕ) → ((i : ℕ) → Waits W d t i → ⊥) → choice J W d t ≡ none
   resting-choice W d t h = by-choice (choice J W d t) (λ e. e) (λ i e. absurd (h i (choice-some W d t i e .waits)))
@@ -173,34 +175,34 @@ module _ (J : Job) where
   ready-release W t i h = leb-true _ t (and-true (leb (piece J i .release) t) _ h .0)
 
   pub ready-before : (W : List Progress) (t i : ℕ) → isReady J W t i ≡ true
-    → (l : Link) → Mem l (linksInto J i) → handedOver J W t l ≡ true
+      → (l : Link) → Mem l (linksInto J i) → handedOver J W t l ≡ true
   unfolding isReady
   ready-before W t i h =
       every-mem (handedOver J W t) (linksInto J i) (and-true (leb (piece J i .release) t) _ h .1)
 
   pub ready-intro : (W : List Progress) (t i : ℕ) → piece J i .release ≤ t
-    → ((l : Link) → Mem l (linksInto J i) → handedOver J W t l ≡ true) → isReady J W t i ≡ true
+      → ((l : Link) → Mem l (linksInto J i) → handedOver J W t l ≡ true) → isReady J W t i ≡ true
   unfolding isReady
   ready-intro W t i h k =
       and-intro _ _ (le-leb (piece J i .release) t h) (every-intro (handedOver J W t) (linksInto J i) k)
 
   -- Not ready in spite of the release: here is a link that was not handed over.
   pub unready-link : (W : List Progress) (t i : ℕ) → piece J i .release ≤ t → isReady J W t i ≡ false
-    → (l : Link) × Mem l (linksInto J i) × (handedOver J W t l ≡ false)
+      → (l : Link) × Mem l (linksInto J i) × (handedOver J W t l ≡ false)
   unfolding isReady
   unready-link W t i h k =
       every-fails (handedOver J W t) (linksInto J i)
       (rw (le-leb (piece J i .release) t h) at k)
 
   pub handed-fact : (W : List Progress) (t : ℕ) (l : Link) → handedOver J W t l ≡ true
-    → (progress W (l .before) .left ≡ 0) × (progress W (l .before) .finish + delay J l ≤ t)
+      → (progress W (l .before) .left ≡ 0) × (progress W (l .before) .finish + delay J l ≤ t)
   unfolding handedOver isFinished
   handed-fact W t l h =
       let w = and-true (eqb (progress W (l .before) .left) 0) (leb (progress W (l .before) .finish + delay J l) t) h in
       (eqb-true _ 0 (w .0), leb-true _ t (w .1))
 
   pub fact-handed : (W : List Progress) (t : ℕ) (l : Link) → progress W (l .before) .left ≡ 0
-    → progress W (l .before) .finish + delay J l ≤ t → handedOver J W t l ≡ true
+      → progress W (l .before) .finish + delay J l ≤ t → handedOver J W t l ≡ true
   unfolding handedOver isFinished
   fact-handed W t l h k = and-intro _ _ (eq-eqb _ 0 h) (le-leb _ t k)
 
@@ -221,12 +223,12 @@ module _ (J : Job) where
 
   -- Piece i is worked on in slot t, or it is not.
   pub work-on : (t i : ℕ) → i < pieceCount J → worked J (desk J i) t ≡ some i
-    → progress (workAt J (suc t)) i ≡ workedOn (duration J i) t (progress (workAt J t) i)
+      → progress (workAt J (suc t)) i ≡ workedOn (duration J i) t (progress (workAt J t) i)
   unfolding worked afterSlot
   work-on t i h e = work-next t i h ∙ when-true _ _ _ (it-is _ i e)
 
   pub work-off : (t i : ℕ) → i < pieceCount J → (worked J (desk J i) t ≡ some i → ⊥)
-    → progress (workAt J (suc t)) i ≡ progress (workAt J t) i
+      → progress (workAt J (suc t)) i ≡ progress (workAt J t) i
   unfolding worked afterSlot
   work-off t i h e = work-next t i h ∙ when-false _ _ _ (not-it _ i e)
 

@@ -16,7 +16,7 @@ use Rattle.rules.specs.Rings.{via, linkedBy, linked, ringPiece}
 use Rattle.rules.specs.Tables.{Sound, noLink}
 use Rattle.rules.specs.declared.Piece.{Piece}
 use Rattle.rules.specs.declared.Link.{Link}
-use Rattle.laws.proofs.Words.{by-test, true-or-false, and-true, and-intro, or-false, mem-keep, keep-mem, oneOf-found, oneOf-intro}
+use Rattle.laws.proofs.Words.{by-test, true-or-false, passed, and-true, and-intro, or-false, mem-keep, keep-mem, oneOf-found, oneOf-intro}
 use Rattle.laws.proofs.Rings as R
 
 -- A member stands at some place of its list.
@@ -28,12 +28,6 @@ pub place-mem : {A : Type 0} (z : A) (l : List A) (k : ℕ) → k < length l →
 place-mem z [] k h = absurd (omega arith)
 place-mem z (y ∷ ys) zero h = here refl
 place-mem z (y ∷ ys) (suc k) h = there (place-mem z ys k (omega arith))
-
--- A judgement that ends in 0 was passed at each of its tests.
-passed : (b : Bool) (fault later : ℕ) → when b (suc fault) later ≡ 0 → (b ≡ false) × (later ≡ 0)
-unfolding when
-passed true fault later h = absurd (omega arith)
-passed false fault later h = (refl, h)
 
 -- The values of a piece without a fault.
 pub record PieceFits (p : Piece) : Type 0 where
@@ -140,6 +134,15 @@ module _ (J : Job) (sound : Sound J) where
     pub behind : ℕ → ℕ
     behind = R.behind (linked J) (pieceCount J) links-inside no-ring
 
+    pub ahead-falls : (l : Link) → Mem l (J .links) → ahead (l .before) < ahead (l .after)
+    unfolding ahead
+    ahead-falls l m =
+        R.ahead-falls (linked J) (pieceCount J) links-inside no-ring (l .before) (l .after) (link-linked J l m)
+
+    pub ahead-few : (i : ℕ) → ahead i ≤ pieceCount J
+    unfolding ahead
+    ahead-few = R.ahead-few (linked J) (pieceCount J) links-inside no-ring
+
     pub behind-falls : (l : Link) → Mem l (J .links) → behind (l .after) < behind (l .before)
     unfolding behind
     behind-falls l m =
@@ -151,15 +154,15 @@ module _ (J : Job) (sound : Sound J) where
 
     -- What holds of a piece once it holds of the pieces before it holds of all; and so for the pieces after it.
     pub along-before : {P : ℕ → Type 0}
-      → ((j : ℕ) → j < pieceCount J → ((l : Link) → Mem l (J .links) → l .after ≡ j → P (l .before)) → P j)
-      → (j : ℕ) → j < pieceCount J → P j
+        → ((j : ℕ) → j < pieceCount J → ((l : Link) → Mem l (J .links) → l .after ≡ j → P (l .before)) → P j)
+        → (j : ℕ) → j < pieceCount J → P j
     along-before {P} step =
         R.along-before (linked J) (pieceCount J) links-inside no-ring {P = P}
         (λ j h prior. step j h (λ l m e. prior (l .before) (rw e at (link-linked J l m))))
 
     pub along-after : {P : ℕ → Type 0}
-      → ((i : ℕ) → i < pieceCount J → ((l : Link) → Mem l (J .links) → l .before ≡ i → P (l .after)) → P i)
-      → (i : ℕ) → i < pieceCount J → P i
+        → ((i : ℕ) → i < pieceCount J → ((l : Link) → Mem l (J .links) → l .before ≡ i → P (l .after)) → P i)
+        → (i : ℕ) → i < pieceCount J → P i
     along-after {P} step =
         R.along-after (linked J) (pieceCount J) links-inside no-ring {P = P}
         (λ i h later. step i h (λ l m e. later (l .after) (rw e at (link-linked J l m))))

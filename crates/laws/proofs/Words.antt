@@ -1,15 +1,15 @@
 -- Laws of the shared words: what is kept of a list, tests over a list, numbers below n, sums and greatest numbers.
-use Prim.Native.Nat.{ℕ, zero, suc, _+_, _≤_, _<_}
+use Prim.Native.Nat.{ℕ, zero, suc, _+_, _*_, _≤_, _<_}
 use mathlib.Core.Bool.{Bool, true, false, not, _&&_, _||_}
-use mathlib.Core.List.{List, [], _∷_, _++_, map, List·Memᴰ as Mem, List·Memᴰ·head as here, List·Memᴰ·tail as there}
+use mathlib.Core.List.{List, [], _∷_, _++_, map, List·Memᴰ as Mem, List·Memᴰ·head as here, List·Memᴰ·tail as there, List·Memᴰ·append-cases}
 use mathlib.Core.Logic.{_⊎_, inl, inr}
 use mathlib.Core.Path.{_≡_, refl, sym, ap, _∙_}
 use native.Mathlib.Omega.{arith}
-use native.Mathlib.Numerals.{add-one}
+use native.Mathlib.Nat.{mul-zero, mul-suc}
 use borrow.Author.Tests.{ltb-true, ltb-false, lt-ltb, le-ltb}
 use lib.Dec.{ltb, leb, eqb}
-use lib.ListN.{length, getD}
-use Rattle.rules.specs.Words.{when, keep, every, oneOf, row, below, sum, greater, greatest}
+use lib.ListN.{length, getD, length-append}
+use Rattle.rules.specs.Words.{when, keep, every, oneOf, joined, row, below, sum, greater, greatest}
 
 -- A test is one of two.
 pub by-test : {P : Type 0} (b : Bool) → (b ≡ true → P) → (b ≡ false → P) → P
@@ -57,6 +57,12 @@ pub when-false : {A : Type 0} (b : Bool) (x y : A) → b ≡ false → when b x 
 unfolding when
 when-false b x y p = rw p
 
+-- A judgement that ends in 0 was passed at each of its tests.
+pub passed : (b : Bool) (fault later : ℕ) → when b (suc fault) later ≡ 0 → (b ≡ false) × (later ≡ 0)
+unfolding when
+passed true fault later h = absurd (omega arith)
+passed false fault later h = (refl, h)
+
 -- A member of the list with or without its head, by the test of the head.
 kept : {A : Type 0} (b : Bool) (x y : A) (l : List A) → Mem x l → Mem x (when b (y ∷ l) l)
 unfolding when
@@ -88,11 +94,13 @@ module _ {A : Type 0} (p : A → Bool) where
     where
       under : Mem x ys × (p x ≡ true) → Mem x (y ∷ ys) × (p x ≡ true)
       under q = (there (q .0), q .1)
+
       head : p y ≡ true → (Mem x (keep p ys) → Mem x ys × (p x ≡ true)) → Mem x (y ∷ keep p ys) → Mem x (y ∷ ys) × (p x ≡ true)
       head e ih (here q) = (here q, ap p q ∙ e)
       head e ih (there k) = under (ih k)
+
       go : (b : Bool) → p y ≡ b → (Mem x (keep p ys) → Mem x ys × (p x ≡ true))
-        → Mem x (when b (y ∷ keep p ys) (keep p ys)) → Mem x (y ∷ ys) × (p x ≡ true)
+          → Mem x (when b (y ∷ keep p ys) (keep p ys)) → Mem x (y ∷ ys) × (p x ≡ true)
       go true e ih k = head e ih k
       go false e ih k = under (ih k)
 
@@ -113,7 +121,7 @@ module _ {A : Type 0} (p : A → Bool) where
   every-fails (y ∷ ys) h = go (and-false (p y) (every p ys) h) (λ k. every-fails ys k)
     where
       go : (p y ≡ false) ⊎ (every p ys ≡ false) → (every p ys ≡ false → (x : A) × Mem x ys × (p x ≡ false))
-        → (x : A) × Mem x (y ∷ ys) × (p x ≡ false)
+          → (x : A) × Mem x (y ∷ ys) × (p x ≡ false)
       go (inl e) ih = (y, here refl, e)
       go (inr e) ih = let w = ih e in (w .0, there (w .1), w .2)
 
@@ -129,7 +137,7 @@ module _ {A : Type 0} (p : A → Bool) where
   oneOf-found (y ∷ ys) h = go (or-true (p y) (oneOf p ys) h) (λ k. oneOf-found ys k)
     where
       go : (p y ≡ true) ⊎ (oneOf p ys ≡ true) → (oneOf p ys ≡ true → (x : A) × Mem x ys × (p x ≡ true))
-        → (x : A) × Mem x (y ∷ ys) × (p x ≡ true)
+          → (x : A) × Mem x (y ∷ ys) × (p x ≡ true)
       go (inl e) ih = (y, here refl, e)
       go (inr e) ih = let w = ih e in (w .0, there (w .1), w .2)
 
@@ -187,15 +195,26 @@ module _ {A : Type 0} (f g : A → ℕ) where
       let ih : sum (map f ys) ≤ sum (map g ys) = sum-le ys (on-tail y ys h) in
       omega (arith, h y (here refl))
 
-  pub sum-lt : (l : List A) → ((x : A) → Mem x l → f x ≤ g x) → (x : A) → Mem x l → f x < g x → sum (map f l) < sum (map g l)
+  -- A gap in one term is a gap in the sum.
+  pub sum-gap : (c : ℕ) (l : List A) → ((x : A) → Mem x l → f x ≤ g x) → (x : A) → Mem x l → f x + c ≤ g x
+      → sum (map f l) + c ≤ sum (map g l)
   unfolding sum
-  sum-lt (y ∷ ys) h x (here e) k =
+  sum-gap c (y ∷ ys) h x (here e) k =
       let rest : sum (map f ys) ≤ sum (map g ys) = sum-le ys (on-tail y ys h) in
-      let d : f y < g y = rw e at k in
+      let d : f y + c ≤ g y = rw e at k in
       omega arith
-  sum-lt (y ∷ ys) h x (there m) k =
-      let ih : sum (map f ys) < sum (map g ys) = sum-lt ys (on-tail y ys h) x m k in
+  sum-gap c (y ∷ ys) h x (there m) k =
+      let ih : sum (map f ys) + c ≤ sum (map g ys) = sum-gap c ys (on-tail y ys h) x m k in
       omega (arith, h y (here refl))
+
+  pub sum-lt : (l : List A) → ((x : A) → Mem x l → f x ≤ g x) → (x : A) → Mem x l → f x < g x → sum (map f l) < sum (map g l)
+  sum-lt l h x m k = let w : sum (map f l) + 1 ≤ sum (map g l) = sum-gap 1 l h x m (omega arith) in omega arith
+
+pub sum-same : {A : Type 0} (c : ℕ) (l : List A) → sum (map (λ x. c) l) ≡ c * length l
+unfolding sum
+sum-same c [] = sym (mul-zero c)
+sum-same c (x ∷ xs) =
+    let ih : sum (map (λ x. c) xs) ≡ c * length xs = sum-same c xs in omega (arith, mul-suc c (length xs))
 
 pub sum-mem : {A : Type 0} (f : A → ℕ) (l : List A) (x : A) → Mem x l → f x ≤ sum (map f l)
 unfolding sum
@@ -237,6 +256,17 @@ greatest-least a c [] h k = h
 greatest-least a c (x ∷ xs) h k =
     greater-least x (greatest a xs) c (k x (here refl)) (greatest-least a c xs h (on-tail x xs k))
 
+-- The same over a table.
+pub greatest-of : {A : Type 0} (f : A → ℕ) (a : ℕ) (l : List A) (x : A) → Mem x l → f x ≤ greatest a (map f l)
+greatest-of f a l x m = greatest-mem a (map f l) (f x) (mem-map f l x m)
+
+pub greatest-within : {A : Type 0} (f : A → ℕ) (a c : ℕ) (l : List A) → a ≤ c → ((x : A) → Mem x l → f x ≤ c)
+    → greatest a (map f l) ≤ c
+unfolding greatest
+greatest-within f a c [] h k = h
+greatest-within f a c (x ∷ xs) h k =
+    greater-least (f x) (greatest a (map f xs)) c (k x (here refl)) (greatest-within f a c xs h (on-tail x xs k))
+
 -- Fewer pass the one test than the other, where what passes the one passes the other and one more does.
 module _ {A : Type 0} (p q : A → Bool) where
   pub keep-le : (l : List A) → ((x : A) → Mem x l → p x ≡ true → q x ≡ true) → length (keep p l) ≤ length (keep q l)
@@ -249,7 +279,7 @@ module _ {A : Type 0} (p q : A → Bool) where
       (λ e. by-test (q y) (λ k. rw (e, k, when) (omega arith)) (λ k. rw (e, k, when) ih))
 
   pub keep-lt : (l : List A) → ((x : A) → Mem x l → p x ≡ true → q x ≡ true) → (x : A) → Mem x l → p x ≡ false → q x ≡ true
-    → length (keep p l) < length (keep q l)
+      → length (keep p l) < length (keep q l)
   unfolding keep
   keep-lt (y ∷ ys) h x (here e) np qx =
       let rest : length (keep p ys) ≤ length (keep q ys) = keep-le ys (on-tail y ys h) in
@@ -268,3 +298,33 @@ keep-length p [] = omega arith
 keep-length p (y ∷ ys) =
     let ih : length (keep p ys) ≤ length ys = keep-length p ys in
     by-test (p y) (λ e. rw (e, when) (omega arith)) (λ e. rw (e, when) (omega arith))
+
+-- Lists one behind the other: as long as all of them together.
+pub length-joined : {A : Type 0} (ls : List (List A)) → length (joined ls) ≡ sum (map length ls)
+unfolding joined sum
+length-joined [] = refl
+length-joined (l ∷ ls) = length-append l (joined ls) ∙ ap (λ n. length l + n) (length-joined ls)
+
+pub map-twice : {A B C : Type 0} (f : A → B) (g : B → C) (l : List A) → map g (map f l) ≡ map (λ x. g (f x)) l
+map-twice f g [] = refl
+map-twice f g (x ∷ xs) = ap (λ r. g (f x) ∷ r) (map-twice f g xs)
+
+pub sum-plus : {A : Type 0} (f g : A → ℕ) (l : List A) → sum (map (λ x. f x + g x) l) ≡ sum (map f l) + sum (map g l)
+unfolding sum
+sum-plus f g [] = refl
+sum-plus f g (x ∷ xs) =
+    let ih : sum (map (λ x. f x + g x) xs) ≡ sum (map f xs) + sum (map g xs) = sum-plus f g xs in omega arith
+
+-- Where a member of such a list comes from.
+pub mem-of-map : {A B : Type 0} (f : A → B) (l : List A) (y : B) → Mem y (map f l) → (x : A) × Mem x l × (y ≡ f x)
+mem-of-map f (x ∷ xs) y (here e) = (x, here refl, e)
+mem-of-map f (x ∷ xs) y (there m) = let w = mem-of-map f xs y m in (w .0, there (w .1), w .2)
+
+pub mem-of-joined : {A : Type 0} (ls : List (List A)) (x : A) → Mem x (joined ls) → (l : List A) × Mem l ls × Mem x l
+unfolding joined
+mem-of-joined (l ∷ ls) x m = go (List·Memᴰ·append-cases l m) (mem-of-joined ls x)
+  where
+    go : Mem x l ⊎ Mem x (joined ls) → (Mem x (joined ls) → (k : List _) × Mem k ls × Mem x k)
+        → (k : List _) × Mem k (l ∷ ls) × Mem x k
+    go (inl n) ih = (l, here refl, n)
+    go (inr n) ih = let w = ih n in (w .0, there (w .1), w .2)

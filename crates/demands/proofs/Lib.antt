@@ -1,0 +1,10 @@
+-- The theorems, by demand.
+pub mod Accepting
+pub mod Rings
+pub mod Finishes
+pub mod EachSlot
+pub mod Starts
+pub mod OneDesk
+pub mod Best
+pub mod Runs
+pub mod Answers

@@ -1,0 +1,3 @@
+// Links as plain tables of numbers, of no job file: the links from one piece chained together, the ring check with the
+// order that it finds, and the latest moments of all pieces.
+pub mod chains;

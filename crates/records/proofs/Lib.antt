@@ -1,0 +1,3 @@
+pub mod FirstFrom
+pub mod Stores
+pub mod TwosComplement

@@ -1,0 +1,14 @@
+-- The stretch of one desk's runs as the call hands it back: its bytes, and where it stands in the caller's own records.
+-- So the empty stretch at the front is told from every other empty stretch.
+use Prim.Native.Nat.{ℕ, _+_}
+use mathlib.Core.List.{List}
+use mathlib.Core.Path.{_≡_}
+use denote.Ref.{RefT, ptr, now}
+use Rattle.rules.specs.DeskRuns.{stretchFrom, stretch}
+
+pub record Handed (records : RefT (List ℕ)) (desk : ℕ) (part : RefT (List ℕ)) : Type 0 where
+  -- The bytes are the page's stretch.
+  pub bytes : now part ≡ stretch (now records) desk
+  -- They stand in the caller's records, and begin at the stretch's first byte.
+  pub block : ptr part .0 ≡ ptr records .0
+  pub place : ptr part .1 ≡ ptr records .1 + stretchFrom (now records) desk

@@ -1,0 +1,1 @@
+// The mathematics of one desk: definitions and laws in proofs/, no functions.

@@ -1,0 +1,157 @@
+//! Reads the listing that `deskplan` prints. Every line is a word or two and then words with their
+//! numbers, so fields that are added later do no harm here.
+
+use crate::mistake::Mistake;
+use std::collections::BTreeSet;
+
+#[derive(Clone, Copy, Debug, PartialEq, Eq)]
+pub struct Piece {
+    pub desk: i64,
+    pub start: i64,
+    pub finish: i64,
+    pub latest: i64,
+    pub late: i64,
+}
+
+#[derive(Clone, Copy, Debug, PartialEq, Eq)]
+pub struct Run {
+    pub desk: i64,
+    pub piece: usize,
+    pub from: i64,
+    pub until: i64,
+}
+
+/// The pieces by number and the runs as listed.
+#[derive(Clone, Debug, Default, PartialEq, Eq)]
+pub struct Plan {
+    pub pieces: Vec<Piece>,
+    pub runs: Vec<Run>,
+    pub end: i64,
+    pub worst: i64,
+}
+
+#[derive(Clone, Debug, PartialEq, Eq)]
+pub enum Listing {
+    Planned(Plan),
+    Refused { number: i64, place: i64 },
+}
+
+impl Plan {
+    /// The desks that have pieces, in order.
+    pub fn desks(&self) -> Vec<i64> {
+        let desks: BTreeSet<i64> = self.pieces.iter().map(|piece| piece.desk).collect();
+        desks.into_iter().collect()
+    }
+
+    pub fn late(&self, piece: usize) -> bool {
+        self.pieces[piece].late > 0
+    }
+}
+
+/// Reads a whole listing. It ends with its total line, so that one cut short is noticed.
+pub fn read(text: &str) -> Result<Listing, Mistake> {
+    let mut plan = Plan::default();
+    let mut ended = false;
+    for (place, line) in text.lines().enumerate() {
+        let mistake = |what| Mistake::in_line(place + 1, what);
+        if ended {
+            return Err(mistake("nothing should follow the last line of a listing".to_string()));
+        }
+        let words: Vec<&str> = line.split_whitespace().collect();
+        match words.first().copied() {
+            Some("piece") => {
+                let piece = piece(&words, plan.pieces.len()).map_err(mistake)?;
+                plan.pieces.push(piece);
+            }
+            Some("run") => {
+                let run = run(&words[1..], &plan).map_err(mistake)?;
+                plan.runs.push(run);
+            }
+            Some("total") => {
+                total(&words[1..], &mut plan).map_err(mistake)?;
+                ended = true;
+            }
+            Some("refused") if place == 0 => return refused(&words, text).map_err(mistake),
+            _ => {
+                let what = format!("'{line}' is no line of a listing (piece, run, total, refused)");
+                return Err(mistake(what));
+            }
+        }
+    }
+    if ended {
+        Ok(Listing::Planned(plan))
+    } else {
+        Err(Mistake::in_all("the listing is cut short: it has no line 'total'"))
+    }
+}
+
+fn piece(words: &[&str], number: usize) -> Result<Piece, String> {
+    if field(words, "piece")? != number as i64 {
+        return Err(format!("piece {number} should stand here"));
+    }
+    let piece = Piece {
+        desk: field(words, "desk")?,
+        start: field(words, "start")?,
+        finish: field(words, "finish")?,
+        latest: field(words, "latest")?,
+        late: field(words, "late")?,
+    };
+    if piece.desk < 0 || piece.start < 0 || piece.finish <= piece.start {
+        return Err("desk and start are not below 0, and the finish is after the start".into());
+    }
+    if piece.late != piece.finish - piece.latest {
+        return Err("late is not the finish less the latest moment".into());
+    }
+    Ok(piece)
+}
+
+fn run(words: &[&str], plan: &Plan) -> Result<Run, String> {
+    let number = field(words, "piece")?;
+    let known = usize::try_from(number).ok().filter(|&number| number < plan.pieces.len());
+    let piece = known.ok_or(format!("the run is of piece {number}, which is not listed"))?;
+    let run = Run {
+        desk: field(words, "desk")?,
+        piece,
+        from: field(words, "from")?,
+        until: field(words, "until")?,
+    };
+    let of = plan.pieces[piece];
+    if run.desk != of.desk || run.from < of.start || run.until > of.finish || run.until <= run.from
+    {
+        return Err(format!("the run does not fit the line of piece {piece}"));
+    }
+    Ok(run)
+}
+
+fn total(words: &[&str], plan: &mut Plan) -> Result<(), String> {
+    let found = [("pieces", plan.pieces.len()), ("runs", plan.runs.len())];
+    for (name, found) in found {
+        let said = field(words, name)?;
+        if said != found as i64 {
+            return Err(format!("the listing has {found} {name}, but its total says {said}"));
+        }
+    }
+    plan.end = field(words, "end")?;
+    plan.worst = field(words, "worst")?;
+    if plan.end != plan.pieces.iter().map(|piece| piece.finish).max().unwrap_or(0) {
+        return Err("the end is not the largest finish".to_string());
+    }
+    if plan.worst != plan.pieces.iter().map(|piece| piece.late).max().unwrap_or(0) {
+        return Err("the worst is not the greatest lateness".to_string());
+    }
+    Ok(())
+}
+
+fn refused(words: &[&str], text: &str) -> Result<Listing, String> {
+    if text.lines().count() > 1 {
+        return Err("a refused listing has one line".to_string());
+    }
+    Ok(Listing::Refused { number: field(words, "refused")?, place: field(words, "at")? })
+}
+
+/// The number after a word; words and numbers come in turn.
+fn field(words: &[&str], name: &str) -> Result<i64, String> {
+    let pair = words.chunks(2).find(|pair| pair[0] == name);
+    let word = pair.and_then(|pair| pair.get(1)).ok_or(format!("the line has no {name}"))?;
+    word.parse().map_err(|_| format!("{name} '{word}' is not a whole number"))
+}
