@@ -9,10 +9,10 @@ use lib.Dec.{leb}
 use Rattle.rules.specs.Job.{Job, pieceCount}
 use Rattle.rules.specs.Urgency.{worked}
 use Rattle.laws.proofs.Words.{by-test}
+use Rattle.laws.proofs.Progress.{finished-for-good}
 use Rattle.laws.proofs.Slots.{by-choice, worked-chosen}
 use Rattle.slots.specs.Stretch.{at}
 use Rattle.slots.specs.Growth.{runsUntil}
-use Rattle.slots.proofs.Stretch.{finished-stays}
 use Rattle.slots.proofs.Growth.{runs-resting}
 
 -- Every piece is finished at moment t.
@@ -25,11 +25,11 @@ module _ (J : Job) where
       (λ q. q)
       (λ i q. let w = worked-chosen J d (t + j) i q .waits in
         absurd (omega (arith, w .unfinished, e i (w .inside),
-          ap (λ p. p .left) (finished-stays J t i j (w .inside) (e i (w .inside))))))
+          ap (λ p. p .left) (finished-for-good J j t i (w .inside) (e i (w .inside))))))
 
   -- At a later moment, and at any other at which every piece is finished.
   ended-later : (t k : ℕ) → Ended J t → (i : ℕ) → i < pieceCount J → at J (t + k) i ≡ at J t i
-  ended-later t k e i h = finished-stays J t i k h (e i h)
+  ended-later t k e i h = finished-for-good J k t i h (e i h)
 
   runs-later : (t k : ℕ) → Ended J t → (d : ℕ) → runsUntil J d (t + k) ≡ runsUntil J d t
   runs-later t k e d = runs-resting J d t k (λ j l. ended-rests t e j d)

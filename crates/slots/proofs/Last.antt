@@ -17,12 +17,12 @@ use Rattle.rules.specs.Tables.{Sound}
 use Rattle.rules.specs.declared.Link.{Link}
 use Rattle.laws.proofs.Words.{by-test, true-or-false}
 use Rattle.laws.proofs.Sound.{into-link, link-fit}
+use Rattle.laws.proofs.Hours.{always-open}
+use Rattle.laws.proofs.Progress.{left-falls, left-whole, finished-for-good}
 use Rattle.laws.proofs.Order.{sooner-asym}
 use Rattle.laws.proofs.Slots.{Waits, Chosen, by-choice, choice-none, worked-chosen, ready-release, ready-before, ready-intro, handed-fact, fact-handed, work-start, work-on, work-off, by-work, none-or-some, some-inj}
 use Rattle.slots.specs.Stretch.{at}
 use Rattle.slots.specs.Growth.{goesOnAt, freshRun, longer, grown, afterTurn, runsUntil, lastPiece, lastEnd, lastOn}
-use Rattle.slots.proofs.Seams.{always-open}
-use Rattle.slots.proofs.Stretch.{left-most, finished-stays}
 use Rattle.slots.proofs.Growth.{by-last, goes-on, grown-on, grown-anew}
 
 pub last-piece : (A : List Run) (r : Run) → lastPiece (A ++ (r ∷ [])) ≡ some (r .piece)
@@ -85,12 +85,6 @@ module _ (J : Job) where
         ∙ untouched-yet d t i (sym (last-rested d t e) ∙ h) l q)
       (λ x e. none-or-some (sym h ∙ last-worked d t x e))
 
-  pub left-falls : (t i : ℕ) → i < pieceCount J → at J (suc t) i .left ≤ at J t i .left
-  unfolding workedOn
-  left-falls t i h = by-work J t i
-      (λ e. rw (work-on J t i h e) (omega arith))
-      (λ e. rw (work-off J t i h e) (omega arith))
-
   module _ (sound : Sound J) where
     -- Who is ready stays so, and whoever is begun is ready.
     pub ready-stays : (t i : ℕ) → isReady J (workAt J t) t i ≡ true → isReady J (workAt J (suc t)) (suc t) i ≡ true
@@ -99,7 +93,7 @@ module _ (J : Job) where
         (λ l m. let f = handed-fact J (workAt J t) t l (ready-before J (workAt J t) t i h l m) in
           let b = link-fit J sound l (into-link J i l m .0) .before-one in
           let z : t + 1 ≡ suc t = omega arith in
-          let s : at J (suc t) (l .before) ≡ at J t (l .before) = rw z at (finished-stays J t (l .before) 1 b (f .0)) in
+          let s : at J (suc t) (l .before) ≡ at J t (l .before) = rw z at (finished-for-good J 1 t (l .before) b (f .0)) in
           fact-handed J (workAt J (suc t)) (suc t) l
           (ap (λ p. p .left) s ∙ f .0)
           (rw s (omega (arith, f .1))))
@@ -153,7 +147,7 @@ module _ (J : Job) where
     under-way d zero j h a = none-or-some (sym (last-nobody d) ∙ h)
     under-way d (suc t) j h a = by-choice (worked J d t)
         (λ e. let k : lastOn J d t ≡ some j = sym (last-rested d t e) ∙ h in
-          absurd (not-resting d t j e (under-way d t j k (omega (arith, left-falls t j (last-inside d t j k .0))))))
+          absurd (not-resting d t j e (under-way d t j k (omega (arith, left-falls J t j (last-inside d t j k .0))))))
         (λ x e. let q : x ≡ j = some-inj (sym (last-worked d t x e) ∙ h) in just-worked d t j (e ∙ ap some q) a)
 
     -- A desk leaves an unfinished piece only for one that was never worked on.
@@ -166,4 +160,4 @@ module _ (J : Job) where
         (λ b. true-or-false
           (sym (c .first j (u .waits) (λ z. ne (sym z)))
             ∙ sooner-asym J j i (u .first i (c .waits .inside) (c .waits .on-desk) ne (ltb-true _ _ b) (c .waits .unfinished))))
-        (λ b. omega (arith, ltb-false (at J t i .left) (duration J i) b, left-most J t i (c .waits .inside)))
+        (λ b. omega (arith, ltb-false (at J t i .left) (duration J i) b, left-whole J t i (c .waits .inside)))

@@ -13,12 +13,12 @@ use Rattle.rules.specs.Job.{Job, pieceCount, piece, desk, duration}
 use Rattle.rules.specs.Urgency.{progress, workAt, worked, workedOn}
 use Rattle.rules.specs.Tables.{Sound}
 use Rattle.laws.proofs.Words.{by-test, true-or-false, and-true, and-intro, when-true, when-false, sum-le, sum-lt, mem-below, below-mem}
+use Rattle.laws.proofs.Progress.{left-falls}
 use Rattle.laws.proofs.Sound.{fits}
 use Rattle.laws.proofs.Slots.{by-choice, isIt-true, it-is, isIt-false, not-it, worked-chosen, work-on, none-or-some, some-inj}
 use Rattle.slots.specs.Stretch.{at}
 use Rattle.slots.specs.Growth.{lastOn, score}
-use Rattle.slots.proofs.Stretch.{left-most, finished-stays}
-use Rattle.slots.proofs.Last.{last-worked, last-rested, last-inside, untouched-yet, left-falls, leaves-for-new}
+use Rattle.slots.proofs.Last.{last-worked, last-rested, last-inside, untouched-yet, leaves-for-new}
 
 -- One where a test holds.
 abbrev one : Bool → ℕ

@@ -13,11 +13,7 @@ use Rattle.rules.specs.Moments.{delay}
 use Rattle.rules.specs.declared.Link.{Link}
 use Rattle.laws.proofs.Words.{by-test, when-true, when-false}
 
--- Every desk is open in every slot.
-pub always-open : (J : Job) (d t : ℕ) → isOpen J d t ≡ true
-unfolding isOpen
-always-open J d t = refl
-
+-- Every desk is open in every slot of a row.
 pub all-open : (J : Job) (d a n : ℕ) → keep (isOpen J d) (row a n) ≡ row a n
 unfolding keep row isOpen when
 all-open J d a zero = refl
@@ -27,9 +23,3 @@ all-open J d a (suc n) = ap (λ l. a ∷ l) (all-open J d (suc a) n)
 pub delay-is : (J : Job) (l : Link) → delay J l ≡ when (eqb (desk J (l .before)) (desk J (l .after))) 0 (l .handover)
 unfolding delay
 delay-is J l = refl
-
-pub delay-most : (J : Job) (l : Link) → delay J l ≤ l .handover
-unfolding delay
-delay-most J l = by-test (eqb (desk J (l .before)) (desk J (l .after)))
-    (λ e. rw (e, when) (omega arith))
-    (λ e. rw (e, when) (omega arith))

@@ -10,35 +10,19 @@ use borrow.Author.Tests.{eqb-true, eqb-false, eq-eqb, ne-eqb, ltb-true, ltb-fals
 use lib.Dec.{leb, ltb, eqb}
 use Rattle.rules.specs.Words.{when}
 use Rattle.rules.specs.Job.{Job, pieceCount, piece, desk, duration}
-use Rattle.rules.specs.Urgency.{Progress, untouched, progress, isReady, workedOn, workAt, worked, choice}
+use Rattle.rules.specs.Urgency.{Progress, progress, workedOn, workAt, worked, choice}
 use Rattle.rules.specs.Tables.{Sound}
 use Rattle.rules.specs.declared.Link.{Link}
 use Rattle.laws.proofs.Words.{by-test, true-or-false}
+use Rattle.laws.proofs.Hours.{always-open}
+use Rattle.laws.proofs.Progress.{left-whole, finished-for-good}
 use Rattle.laws.proofs.Sound.{link-fit}
 use Rattle.laws.proofs.Slots.{Waits, Chosen, by-choice, choice-some, choice-none, chosen-choice, resting-choice, worked-chosen, work-start, work-on, work-off, by-work, none-or-some, some-inj}
 use Rattle.slots.specs.Standing.{done, waitsFor, readyBy, waitsOf, readyOf}
 use Rattle.slots.specs.Stretch.{at, Stretch, workedFor}
-use Rattle.slots.proofs.Seams.{always-open}
 use Rattle.slots.proofs.Standing.{left-undone, undone-left, ready-waits, waits-ready, alike-waits, alike-ready}
 
 module _ (J : Job) where
-  -- A piece never has more left than its duration, and a finished one stays as it is.
-  pub left-most : (t i : ℕ) → i < pieceCount J → at J t i .left ≤ duration J i
-  unfolding workedOn
-  left-most zero i h = rw (work-start J i) (omega arith)
-  left-most (suc t) i h =
-      let ih : at J t i .left ≤ duration J i = left-most t i h in
-      by-work J t i
-      (λ e. rw (work-on J t i h e) (omega arith))
-      (λ e. rw (work-off J t i h e) ih)
-
-  pub finished-stays : (t i k : ℕ) → i < pieceCount J → at J t i .left ≡ 0 → at J (t + k) i ≡ at J t i
-  finished-stays t i zero h e = let z : t + 0 ≡ t = omega arith in rw z
-  finished-stays t i (suc k) h e =
-      let z : t + suc k ≡ suc (t + k) = omega arith in
-      let ih : at J (t + k) i ≡ at J t i = finished-stays t i k h e in
-      rw z (work-off J (t + k) i h (λ w. omega (arith, worked-chosen J (desk J i) (t + k) i w .waits .unfinished, ap (λ q. q .left) ih)) ∙ ih)
-
   -- Who is worked on in a stretch is unfinished to its end.
   module _ (sound : Sound J) (t k : ℕ) (s : Stretch J t k) where
     -- How far the pieces are j slots on.
@@ -67,7 +51,7 @@ module _ (J : Job) where
       ready-same i =
           alike-ready J (at J t) (at J (t + j)) i (piece J i .release) (J .links)
           (λ m q. none-done j l f (m .before) (link-fit J sound m q .before-one))
-          (λ m q e. ap (λ p. p .finish) (sym (finished-stays t (m .before) j (link-fit J sound m q .before-one) e)))
+          (λ m q e. ap (λ p. p .finish) (sym (finished-for-good J j t (m .before) (link-fit J sound m q .before-one) e)))
 
       left-alive : (i : ℕ) → i < pieceCount J → 0 < at J (t + j) i .left → 0 < at J t i .left
       left-alive i h a = undone-left (at J t) i (none-done j l f i h ∙ left-undone (at J (t + j)) i a)
@@ -121,7 +105,7 @@ module _ (J : Job) where
     one-more zero i l h f e = let z : t + 0 ≡ t = omega arith in rw z
     one-more (suc j) i l h f e =
         let b : k ≤ at J t i .left = s .works i h e in
-        let m : at J t i .left ≤ duration J i = left-most t i h in
+        let m : at J t i .left ≤ duration J i = left-whole J t i h in
         let ne : eqb (at J t i .left - suc j) (duration J i) ≡ false =
             ne-eqb _ _ (λ (z : at J t i .left - suc j ≡ duration J i). omega arith) in
         let a : at J t i .left - suc j - 1 ≡ at J t i .left - suc (suc j) = omega arith in
