@@ -2,4 +2,4 @@
 pub mod Choice
 pub mod Work
 pub mod Log
-pub mod Links
+pub mod Handover

@@ -1,14 +1,14 @@
 use Prim.Native.Nat.{_≤_, _-_}
 use mathlib.Core.Path.{_≡_, refl, sym, ap, _∙_}
 use native.Mathlib.Omega.{arith}
-use Rattle.urgency.specs.Links.{ties, waiting, handOn, handTo}
+use Rattle.urgency.specs.Handover.{ties, waiting, handOn, handTo}
 use Rattle.urgency.proofs.Passed.{hand-more}
 use borrow.Author.Needs.{needs}
-use Rattle.urgency.proofs.links.hand_all.Statement.{statement}
-use Rattle.urgency.proofs.links.hand_all.Tie as tie
-use Rattle.urgency.proofs.links.hand_all.Reads as reads
-use Rattle.urgency.proofs.links.hand_all.Lts as lts
-use Rattle.urgency.proofs.links.hand_on.Reads as hand-on-reads
+use Rattle.urgency.proofs.handover.hand_all.Statement.{statement}
+use Rattle.urgency.proofs.handover.hand_all.Tie as tie
+use Rattle.urgency.proofs.handover.hand_all.Reads as reads
+use Rattle.urgency.proofs.handover.hand_all.Lts as lts
+use Rattle.urgency.proofs.handover.hand_on.Reads as hand-on-reads
 
 abbrev Inv-loop : tie.InvT-loop
 Inv-loop m c desks befores afters handovers first following chosen left waits₀ ready₀ d₀ waits ready d =
