@@ -9,7 +9,7 @@ use lib.Dec.{ltb}
 use lib.ListN.{getD}
 use Rattle.rules.specs.Words.{when}
 use Rattle.laws.proofs.Words.{by-test}
-use Rattle.urgency.specs.Choice.{View, offered, isDue, consideredBy, momentWith, endWith}
+use Rattle.steps.specs.Choice.{View, offered, isDue, consideredBy, momentWith, endWith}
 
 module _ (v : View) (i : ℕ) (C : List ℕ) (next : ℕ) where
   -- What becomes of the choice and of the next moment.

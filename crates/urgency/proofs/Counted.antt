@@ -12,7 +12,7 @@ use lib.ListN.{length, getD, set, length-set}
 use lib.Seq.{getD-set-same, getD-set-other}
 use Rattle.rules.specs.Words.{when}
 use Rattle.laws.proofs.Words.{by-test}
-use Rattle.urgency.specs.Handover.{intoOf}
+use Rattle.steps.specs.Handover.{intoOf}
 
 pub into-most : (afters : List ℕ) (i k : ℕ) → intoOf afters i k ≤ k
 unfolding intoOf

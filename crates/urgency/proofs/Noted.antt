@@ -9,7 +9,7 @@ use borrow.Author.Tests.{lt-ltb, le-ltb, eq-eqb, ne-eqb, ltb-true}
 use lib.Dec.{ltb, eqb}
 use lib.ListN.{getD, set}
 use Rattle.laws.proofs.Words.{when-true, when-false, and-true}
-use Rattle.urgency.specs.Log.{Log, log, stays, lengthened, begun, noteOn, noteTo}
+use Rattle.steps.specs.Log.{Log, log, stays, lengthened, begun, noteOn, noteTo}
 
 -- Whether the run at place k goes on.
 module _ (piece until : List ℕ) (k i t : ℕ) where

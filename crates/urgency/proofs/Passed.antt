@@ -11,7 +11,7 @@ use lib.ListN.{getD, set}
 use Rattle.rules.specs.Words.{when}
 use Rattle.laws.proofs.Words.{by-test, when-true, when-false}
 use Rattle.links.specs.Chains.{lastWith}
-use Rattle.urgency.specs.Handover.{Ties, ties, Waiting, waiting, delayOf, passed, passFrom, handOn, handTo}
+use Rattle.steps.specs.Handover.{Ties, ties, Waiting, waiting, delayOf, passed, passFrom, handOn, handTo}
 
 -- The last link of a piece among the first n is one of these, and the piece's own; what is passed on from there on back is
 -- all that is passed on. 0 says that there is none, and then nothing is.

@@ -4,7 +4,7 @@ use mathlib.Core.List.{List}
 use mathlib.Core.Path.{_≡_, refl, ap, _∙_}
 use native.Mathlib.Numerals.{add-one}
 use lib.ListN.{getD, replicate}
-use Rattle.urgency.specs.Choice.{View, consideredBy, momentWith, chosenFrom, readyNext, endWith, endNext, choiceOf, nextOf, never}
+use Rattle.steps.specs.Choice.{View, consideredBy, momentWith, chosenFrom, readyNext, endWith, endNext, choiceOf, nextOf, never}
 
 pub chosen-more : (v : View) (i : ℕ) (C : List ℕ) → chosenFrom v (i + 1) C ≡ consideredBy v i (chosenFrom v i C)
 unfolding chosenFrom

@@ -9,7 +9,7 @@ use lib.Dec.{eqb}
 use lib.ListN.{getD, set}
 use Rattle.rules.specs.Words.{when}
 use Rattle.laws.proofs.Words.{when-true, when-false}
-use Rattle.urgency.specs.Work.{Work, work, forth, workOn, workTo}
+use Rattle.steps.specs.Work.{Work, work, forth, workOn, workTo}
 
 module _ (durations : List ℕ) (t next : ℕ) where
   pub nobody-works : (i : ℕ) (w : Work) → 255 < i → w ≡ workOn durations t next i w

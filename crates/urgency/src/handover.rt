@@ -8,7 +8,7 @@ ghost use lib.Dec.{eqb};
 ghost use lib.ListN.{length, getD};
 ghost use Rattle.rules.specs.Words.{when};
 ghost use Rattle.links.specs.Chains.{Chained};
-ghost use Rattle.urgency.specs.Handover.{intoOf, Named, ties, waiting, passed, passFrom, handOn, handTo};
+ghost use Rattle.steps.specs.Handover.{intoOf, Named, ties, waiting, passed, passFrom, handOn, handTo};
 
 // Counts for every piece the links into it.
 pub fn count(m: usize, afters: &[u16; 1024], waits: &mut [u32; 256])

@@ -1,7 +1,7 @@
 use Prim.Native.Nat.{_≤_, _-_}
 use mathlib.Core.Path.{_≡_, refl, sym, ap, _∙_}
 use native.Mathlib.Omega.{arith}
-use Rattle.urgency.specs.Choice.{view, chosenFrom, readyNext, consideredBy, momentWith}
+use Rattle.steps.specs.Choice.{view, chosenFrom, readyNext, consideredBy, momentWith}
 use Rattle.urgency.proofs.Turns.{chosen-more, ready-more}
 use borrow.Author.Needs.{needs}
 use Rattle.urgency.proofs.choice.choose.Statement.{statement}

@@ -1,5 +1,5 @@
 use mathlib.Core.Path.{_∙_}
-use Rattle.urgency.specs.Choice.{view}
+use Rattle.steps.specs.Choice.{view}
 use Rattle.urgency.proofs.Considered.{is-finished, waits-yet, ready-later, ready-now}
 use borrow.Author.Needs.{needs}
 use Rattle.urgency.proofs.choice.consider.Statement.{statement}

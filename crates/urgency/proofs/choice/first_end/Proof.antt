@@ -1,7 +1,7 @@
 use Prim.Native.Nat.{_≤_, _-_}
 use mathlib.Core.Path.{_≡_, refl, sym, ap, _∙_}
 use native.Mathlib.Omega.{arith}
-use Rattle.urgency.specs.Choice.{endWith, endNext}
+use Rattle.steps.specs.Choice.{endWith, endNext}
 use Rattle.urgency.proofs.Turns.{end-more}
 use borrow.Author.Needs.{needs}
 use Rattle.urgency.proofs.choice.first_end.Statement.{statement}

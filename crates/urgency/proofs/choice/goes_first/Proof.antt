@@ -4,7 +4,7 @@ use lib.IntN.{pos}
 use lib.ListN.{getD}
 use mir.Syntax.{w32}
 use mir.ValLaws.{toZ-ofZ}
-use Rattle.urgency.specs.Choice.{goesFirst}
+use Rattle.steps.specs.Choice.{goesFirst}
 use Rattle.urgency.proofs.choice.goes_first.Statement.{statement}
 use Rattle.urgency.proofs.choice.goes_first.Tie as tie
 use Rattle.urgency.proofs.choice.goes_first.Reads as reads

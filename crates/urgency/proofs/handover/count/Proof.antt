@@ -2,7 +2,7 @@ use Prim.Native.Nat.{_≤_, _<_, _-_}
 use mathlib.Core.Path.{_≡_, refl, sym, ap, _∙_}
 use native.Mathlib.Omega.{arith}
 use lib.ListN.{length, getD, length-set}
-use Rattle.urgency.specs.Handover.{intoOf}
+use Rattle.steps.specs.Handover.{intoOf}
 use Rattle.urgency.proofs.Counted.{Counted, into-most, count-more}
 use borrow.Author.Needs.{needs}
 use Rattle.urgency.proofs.handover.count.Statement.{statement}

@@ -1,7 +1,7 @@
 use Prim.Native.Nat.{_≤_, _-_}
 use mathlib.Core.Path.{_≡_, refl, sym, ap, _∙_}
 use native.Mathlib.Omega.{arith}
-use Rattle.urgency.specs.Handover.{ties, waiting, handOn, handTo}
+use Rattle.steps.specs.Handover.{ties, waiting, handOn, handTo}
 use Rattle.urgency.proofs.Passed.{hand-more}
 use borrow.Author.Needs.{needs}
 use Rattle.urgency.proofs.handover.hand_all.Statement.{statement}

@@ -1,6 +1,6 @@
 use mathlib.Core.Path.{_∙_}
 use native.Mathlib.Omega.{arith}
-use Rattle.urgency.specs.Handover.{ties, waiting}
+use Rattle.steps.specs.Handover.{ties, waiting}
 use Rattle.urgency.proofs.Passed.{nobody-hands, unfinished-hands, finished-hands}
 use borrow.Author.Needs.{needs}
 use Rattle.urgency.proofs.handover.hand_on.Statement.{statement}

@@ -1,4 +1,4 @@
-use Rattle.urgency.specs.Handover.{ties, waiting}
+use Rattle.steps.specs.Handover.{ties, waiting}
 use Rattle.urgency.proofs.Passed.{passed-on, delay-is}
 use borrow.Author.Needs.{needs}
 use Rattle.urgency.proofs.handover.pass.Statement.{statement}

@@ -2,7 +2,7 @@ use Prim.Native.Nat.{ℕ, suc, _-_, _≤_, _<_}
 use mathlib.Core.Path.{_≡_, refl, sym, ap, _∙_}
 use native.Mathlib.Omega.{arith}
 use Rattle.links.specs.Chains.{lastWith}
-use Rattle.urgency.specs.Handover.{ties, waiting, passFrom}
+use Rattle.steps.specs.Handover.{ties, waiting, passFrom}
 use Rattle.urgency.proofs.Passed.{Onward, last-found, last-nothing, last-most}
 use borrow.Author.Needs.{needs}
 use Rattle.urgency.proofs.handover.pass_on.Statement.{statement}

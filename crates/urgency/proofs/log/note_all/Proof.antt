@@ -1,7 +1,7 @@
 use Prim.Native.Nat.{_≤_, _-_}
 use mathlib.Core.Path.{_≡_, refl, sym, ap, _∙_}
 use native.Mathlib.Omega.{arith}
-use Rattle.urgency.specs.Log.{log, noteOn, noteTo}
+use Rattle.steps.specs.Log.{log, noteOn, noteTo}
 use Rattle.urgency.proofs.Noted.{note-more}
 use borrow.Author.Needs.{needs}
 use Rattle.urgency.proofs.log.note_all.Statement.{statement}

@@ -1,7 +1,7 @@
 use Prim.Native.Nat.{_≤_, _-_}
 use mathlib.Core.Path.{_≡_, refl, sym, ap, _∙_}
 use native.Mathlib.Omega.{arith}
-use Rattle.urgency.specs.Work.{work, workOn, workTo}
+use Rattle.steps.specs.Work.{work, workOn, workTo}
 use Rattle.urgency.proofs.Worked.{work-more}
 use borrow.Author.Needs.{needs}
 use Rattle.urgency.proofs.work.work_all.Statement.{statement}

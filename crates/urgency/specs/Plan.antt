@@ -1,0 +1,1 @@
+-- The contract of the plan over lent tables.
