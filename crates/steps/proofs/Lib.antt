@@ -1,0 +1,3 @@
+-- That one step over the tables is the plan from one decision moment to the next, by topic.
+pub mod Tables
+pub mod Decision
