@@ -1,3 +1,4 @@
 -- That one step over the tables is the plan from one decision moment to the next, by topic.
 pub mod Tables
 pub mod Decision
+pub mod NextMoment
