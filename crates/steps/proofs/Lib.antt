@@ -2,3 +2,5 @@
 pub mod Tables
 pub mod Decision
 pub mod NextMoment
+pub mod Moved
+pub mod WorkStep
