@@ -4,3 +4,4 @@ pub mod Decision
 pub mod NextMoment
 pub mod Moved
 pub mod WorkStep
+pub mod LinkStep
