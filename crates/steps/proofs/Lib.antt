@@ -5,3 +5,4 @@ pub mod NextMoment
 pub mod Moved
 pub mod WorkStep
 pub mod LinkStep
+pub mod LogLists

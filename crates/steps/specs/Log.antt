@@ -57,6 +57,5 @@ runAt piece from until k = record {
 }
 
 unfoldable pub loggedRuns : List ℕ → List ℕ → List ℕ → List ℕ → ℕ → ℕ → List Run
-unfolding keep below
 loggedRuns desks piece from until runs d =
     map (runAt piece from until) (keep (λ k. eqb (getD desks (getD piece k 0) 0) d) (below runs))
