@@ -34,6 +34,10 @@ unfolding goesOnAt
 goes-on r i t h =
     let w = and-true (eqb (r .piece) i) (eqb (r .until) t) h in (eqb-true _ i (w .0), eqb-true _ t (w .1))
 
+pub going-on : (r : Run) (i t : ℕ) → r .piece ≡ i → r .until ≡ t → goesOnAt r i t ≡ true
+unfolding goesOnAt
+going-on r i t p q = rw (eq-eqb (r .piece) i p, eq-eqb (r .until) t q)
+
 other-piece : (r : Run) (i t : ℕ) → eqb (r .piece) i ≡ false → goesOnAt r i t ≡ false
 unfolding goesOnAt
 other-piece r i t h = rw h

@@ -100,12 +100,12 @@ module _ (J : Job) where
 
   -- Where a run begins, a piece of the desk counts one more.
   module _ (sound : Sound J) where
-    pub Rises : ℕ → ℕ → Type 0
+    abbrev pub Rises : ℕ → ℕ → Type 0
     Rises d t = (x : ℕ) × (x < pieceCount J) × (desk J x ≡ d) × (score J t x < score J (suc t) x)
 
     -- It is begun with it ..
     new-rises : (d t i : ℕ) → worked J d t ≡ some i → at J t i .left ≡ duration J i → Rises d t
-    unfolding Rises workedOn
+    unfolding workedOn
     new-rises d t i e b =
         let w = worked-chosen J d t i e .waits in
         let f : at J (suc t) i .left ≡ at J t i .left - 1 =
@@ -122,7 +122,6 @@ module _ (J : Job) where
 
     -- .. or it was finished before.
     old-rises : (d t i j : ℕ) → worked J d t ≡ some i → lastOn J d t ≡ some j → (i ≡ j → ⊥) → at J t j .left ≡ 0 → Rises d t
-    unfolding Rises
     old-rises d t i j e l ne f =
         let w = last-inside J d t j l in
         let q : desk J j ≡ d = w .1 in

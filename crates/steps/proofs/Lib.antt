@@ -6,3 +6,8 @@ pub mod Moved
 pub mod WorkStep
 pub mod LinkStep
 pub mod LogLists
+pub mod Scores
+pub mod LogHeld
+pub mod LogGoesOn
+pub mod LogBegins
+pub mod LogStep
