@@ -90,7 +90,7 @@ module _ (J : Job) (sound : Sound J) (n : ℕ) (desks : List ℕ) (t u k : ℕ) 
     own-desk : getD desks i 0 ≡ d
     own-desk = sym (desk-is i inside) ∙ worked-chosen J d t i q .waits .on-desk
 
-    room : l .runs < 512
+    pub room : l .runs < 512
     room =
         let early : momentOf t u d (desk J i) ≡ t =
             moment-early t u d (desk J i) (omega (arith, worked-chosen J d t i q .waits .on-desk)) in
