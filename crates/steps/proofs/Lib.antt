@@ -11,3 +11,5 @@ pub mod LogHeld
 pub mod LogGoesOn
 pub mod LogBegins
 pub mod LogStep
+pub mod Begin
+pub mod Step
