@@ -5,3 +5,4 @@ pub mod Worked
 pub mod Noted
 pub mod Counted
 pub mod Passed
+pub mod Filled
