@@ -26,10 +26,10 @@ consider-requires : tie.Need-consider-requires Inv-loop μ-loop
 consider-requires c κs = (omega arith, c .before .before .before .pre .1 _ (c .before .loop-test .taken))
 
 add-i : tie.Need-add-i Inv-loop μ-loop
-add-i c = search needs
+add-i c = omega arith
 
 loop-less : tie.Need-loop-less Inv-loop μ-loop
-loop-less c = search needs
+loop-less c = omega arith
 
 loop-again : tie.Need-loop-again Inv-loop μ-loop
 loop-again c =

@@ -1,3 +1,4 @@
+use native.Mathlib.Omega.{arith}
 use mathlib.Core.Path.{_∙_}
 use Rattle.steps.specs.Choice.{view}
 use Rattle.urgency.proofs.Considered.{is-finished, waits-yet, ready-later, ready-now}
@@ -10,10 +11,10 @@ use Rattle.urgency.proofs.choice.earlier.Reads as earlier-reads
 use Rattle.urgency.proofs.choice.offer.Reads as offer-reads
 
 mul-if1 : tie.Need-mul-if1
-mul-if1 c = search needs
+mul-if1 c = omega arith
 
 element-copy-out-if1 : tie.Need-element-copy-out-if1
-element-copy-out-if1 c = search needs
+element-copy-out-if1 c = omega arith
 
 returns : tie.Need-returns
 returns c =
@@ -22,10 +23,10 @@ returns c =
     is-finished v (a .i) (a .chosen .now) (a .next) (c .if1 .taken)
 
 mul-if2 : tie.Need-mul-if2
-mul-if2 c = search needs
+mul-if2 c = omega arith
 
 element-copy-out-if2 : tie.Need-element-copy-out-if2
-element-copy-out-if2 c = search needs
+element-copy-out-if2 c = omega arith
 
 returns-2 : tie.Need-returns-2
 returns-2 c =
@@ -34,16 +35,16 @@ returns-2 c =
     waits-yet v (a .i) (a .chosen .now) (a .next) (c .if2 .taken)
 
 mul-if3 : tie.Need-mul-if3
-mul-if3 c = search needs
+mul-if3 c = omega arith
 
 element-copy-out-if3 : tie.Need-element-copy-out-if3
-element-copy-out-if3 c = search needs
+element-copy-out-if3 c = omega arith
 
 mul-earlier : tie.Need-mul-earlier
-mul-earlier c = search needs
+mul-earlier c = omega arith
 
 element-copy-out-earlier : tie.Need-element-copy-out-earlier
-element-copy-out-earlier c = search needs
+element-copy-out-earlier c = omega arith
 
 earlier-requires : tie.Need-earlier-requires
 earlier-requires c κs = search needs
@@ -57,10 +58,10 @@ returns-3 c =
     (w .0, c .earlier .ensures ∙ w .1)
 
 element-copy-out-offer : tie.Need-element-copy-out-offer
-element-copy-out-offer c = search needs
+element-copy-out-offer c = omega arith
 
 cast-offer : tie.Need-cast-offer
-cast-offer c = search needs
+cast-offer c = omega arith
 
 offer-requires : tie.Need-offer-requires
 offer-requires c κs = search needs

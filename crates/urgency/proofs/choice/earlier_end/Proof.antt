@@ -1,3 +1,4 @@
+use native.Mathlib.Omega.{arith}
 use Rattle.urgency.proofs.Considered.{nobody-ends, ends-first, ends-later}
 use borrow.Author.Needs.{needs}
 use Rattle.urgency.proofs.choice.earlier_end.Statement.{statement}
@@ -10,22 +11,22 @@ returns : tie.Need-returns
 returns c = nobody-ends _ _ _ _ (c .if1 .taken)
 
 mul-if2 : tie.Need-mul-if2
-mul-if2 c = search needs
+mul-if2 c = omega arith
 
 element-copy-out-if2 : tie.Need-element-copy-out-if2
-element-copy-out-if2 c = search needs
+element-copy-out-if2 c = omega arith
 
 less-requires : tie.Need-less-requires
 less-requires c κs = search needs
 
 mul-result : tie.Need-mul-result
-mul-result c = search needs
+mul-result c = omega arith
 
 element-copy-out-result : tie.Need-element-copy-out-result
-element-copy-out-result c = search needs
+element-copy-out-result c = omega arith
 
 add-result : tie.Need-add-result
-add-result c = search needs
+add-result c = omega arith
 
 returns-2 : tie.Need-returns-2
 returns-2 c =

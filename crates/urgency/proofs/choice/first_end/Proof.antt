@@ -21,19 +21,19 @@ unfolding endNext
 loop-holds c = (omega arith, refl)
 
 mul-earlier-end : tie.Need-mul-earlier-end Inv-loop μ-loop
-mul-earlier-end c = search needs
+mul-earlier-end c = omega arith
 
 element-copy-out-earlier-end : tie.Need-element-copy-out-earlier-end Inv-loop μ-loop
-element-copy-out-earlier-end c = search needs
+element-copy-out-earlier-end c = omega arith
 
 earlier-end-requires : tie.Need-earlier-end-requires Inv-loop μ-loop
 earlier-end-requires c κs = tt
 
 add-d : tie.Need-add-d Inv-loop μ-loop
-add-d c = search needs
+add-d c = omega arith
 
 loop-less : tie.Need-loop-less Inv-loop μ-loop
-loop-less c = search needs
+loop-less c = omega arith
 
 loop-again : tie.Need-loop-again Inv-loop μ-loop
 loop-again c =

@@ -1,3 +1,4 @@
+use native.Mathlib.Omega.{arith}
 use borrow.Author.Needs.{needs}
 use borrow.Author.Tests.{le-ltb, lt-ltb}
 use lib.IntN.{pos}
@@ -12,19 +13,19 @@ use Rattle.urgency.proofs.choice.goes_first.Lts as lts
 
 -- src/choice.rt:21:16
 mul-result : tie.Need-mul-result
-mul-result c = search needs
+mul-result c = omega arith
 
 -- src/choice.rt:21:16
 element-copy-out-result : tie.Need-element-copy-out-result
-element-copy-out-result c = search needs
+element-copy-out-result c = omega arith
 
 -- src/choice.rt:21:29
 mul-result-2 : tie.Need-mul-result-2
-mul-result-2 c = search needs
+mul-result-2 c = omega arith
 
 -- src/choice.rt:21:29
 element-copy-out-result-2 : tie.Need-element-copy-out-result-2
-element-copy-out-result-2 c = search needs
+element-copy-out-result-2 c = omega arith
 
 -- src/choice.rt:21:9
 returns : tie.Need-returns

@@ -1,3 +1,4 @@
+use native.Mathlib.Omega.{arith}
 use borrow.Author.Needs.{needs}
 use mathlib.Core.Path.{sym, _∙_}
 use Rattle.laws.proofs.Words.{when-true, when-false}
@@ -10,11 +11,11 @@ use Rattle.urgency.proofs.choice.goes_first.Reads as goes-first-reads
 
 -- src/choice.rt:31:31
 mul-goes-first : tie.Need-mul-goes-first
-mul-goes-first c = search needs
+mul-goes-first c = omega arith
 
 -- src/choice.rt:31:31
 element-copy-out-goes-first : tie.Need-element-copy-out-goes-first
-element-copy-out-goes-first c = search needs
+element-copy-out-goes-first c = omega arith
 
 -- src/choice.rt:31:8
 goes-first-requires : tie.Need-goes-first-requires
@@ -22,11 +23,11 @@ goes-first-requires c κs = search needs
 
 -- src/choice.rt:32:9
 mul-chosen : tie.Need-mul-chosen
-mul-chosen c = search needs
+mul-chosen c = omega arith
 
 -- src/choice.rt:32:9
 element-write-chosen : tie.Need-element-write-chosen
-element-write-chosen c = search needs
+element-write-chosen c = omega arith
 
 -- src/choice.rt:27:1
 returns : tie.Need-returns

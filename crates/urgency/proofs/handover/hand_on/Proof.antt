@@ -15,10 +15,10 @@ returns c =
     nobody-hands (ties (a .desks .now) (a .befores .now) (a .afters .now) (a .handovers .now)) (a .m) (a .c) (a .left .now) (a .i) (waiting (a .waits .now) (a .ready .now)) (c .if1 .taken)
 
 mul-if2 : tie.Need-mul-if2
-mul-if2 c = search needs
+mul-if2 c = omega arith
 
 element-copy-out-if2 : tie.Need-element-copy-out-if2
-element-copy-out-if2 c = search needs
+element-copy-out-if2 c = omega arith
 
 returns-2 : tie.Need-returns-2
 returns-2 c =

@@ -1,3 +1,4 @@
+use native.Mathlib.Omega.{arith}
 use Rattle.steps.specs.Handover.{ties, waiting}
 use Rattle.urgency.proofs.Passed.{passed-on, delay-is}
 use borrow.Author.Needs.{needs}
@@ -11,55 +12,55 @@ use Rattle.urgency.proofs.handover.one_less.Reads as one-less-reads
 use Rattle.urgency.proofs.work.wide.Reads as wide-reads
 
 mul-b : tie.Need-mul-b
-mul-b c = search needs
+mul-b c = omega arith
 
 element-copy-out-b : tie.Need-element-copy-out-b
-element-copy-out-b c = search needs
+element-copy-out-b c = omega arith
 
 cast-b : tie.Need-cast-b
-cast-b c = search needs
+cast-b c = omega arith
 
 mul-a : tie.Need-mul-a
-mul-a c = search needs
+mul-a c = omega arith
 
 element-copy-out-a : tie.Need-element-copy-out-a
-element-copy-out-a c = search needs
+element-copy-out-a c = omega arith
 
 cast-a : tie.Need-cast-a
-cast-a c = search needs
+cast-a c = omega arith
 
 mul-one-less : tie.Need-mul-one-less
-mul-one-less c = search needs
+mul-one-less c = omega arith
 
 element-copy-out-one-less : tie.Need-element-copy-out-one-less
-element-copy-out-one-less c = search needs
+element-copy-out-one-less c = omega arith
 
 one-less-requires : tie.Need-one-less-requires
 one-less-requires c κs = search needs
 
 mul-waits : tie.Need-mul-waits
-mul-waits c = search needs
+mul-waits c = omega arith
 
 element-write-waits : tie.Need-element-write-waits
-element-write-waits c = search needs
+element-write-waits c = omega arith
 
 mul-later : tie.Need-mul-later
-mul-later c = search needs
+mul-later c = omega arith
 
 element-copy-out-later : tie.Need-element-copy-out-later
-element-copy-out-later c = search needs
+element-copy-out-later c = omega arith
 
 element-copy-out-delay : tie.Need-element-copy-out-delay
-element-copy-out-delay c = search needs
+element-copy-out-delay c = omega arith
 
 element-copy-out-delay-2 : tie.Need-element-copy-out-delay-2
-element-copy-out-delay-2 c = search needs
+element-copy-out-delay-2 c = omega arith
 
 mul-wide : tie.Need-mul-wide
-mul-wide c = search needs
+mul-wide c = omega arith
 
 element-copy-out-wide : tie.Need-element-copy-out-wide
-element-copy-out-wide c = search needs
+element-copy-out-wide c = omega arith
 
 wide-requires : tie.Need-wide-requires
 wide-requires c κs = search needs
@@ -68,16 +69,16 @@ delay-requires : tie.Need-delay-requires
 delay-requires c κs = search needs
 
 add-later : tie.Need-add-later
-add-later c = search needs
+add-later c = omega arith
 
 later-requires : tie.Need-later-requires
 later-requires c κs = search needs
 
 mul-ready : tie.Need-mul-ready
-mul-ready c = search needs
+mul-ready c = omega arith
 
 element-write-ready : tie.Need-element-write-ready
-element-write-ready c = search needs
+element-write-ready c = omega arith
 
 returns : tie.Need-returns
 returns c =

@@ -1,3 +1,4 @@
+use native.Mathlib.Omega.{arith}
 use mathlib.Core.Path.{sym, _∙_}
 use Rattle.urgency.proofs.Noted.{no-place, other-piece, same-piece}
 use borrow.Author.Needs.{needs}
@@ -13,19 +14,19 @@ returns c =
     no-place (a .piece .now) (a .until .now) (a .k) (a .i) (a .t) (c .if1 .taken)
 
 mul-number : tie.Need-mul-number
-mul-number c = search needs
+mul-number c = omega arith
 
 element-copy-out-number : tie.Need-element-copy-out-number
-element-copy-out-number c = search needs
+element-copy-out-number c = omega arith
 
 number-requires : tie.Need-number-requires
 number-requires c κs = search needs
 
 mul-result : tie.Need-mul-result
-mul-result c = search needs
+mul-result c = omega arith
 
 element-copy-out-result : tie.Need-element-copy-out-result
-element-copy-out-result c = search needs
+element-copy-out-result c = omega arith
 
 returns-2 : tie.Need-returns-2
 returns-2 c =

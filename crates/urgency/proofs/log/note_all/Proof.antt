@@ -22,16 +22,16 @@ unfolding noteTo
 loop-holds c = (omega arith, refl)
 
 mul-note : tie.Need-mul-note Inv-loop μ-loop
-mul-note c = search needs
+mul-note c = omega arith
 
 element-copy-out-note : tie.Need-element-copy-out-note Inv-loop μ-loop
-element-copy-out-note c = search needs
+element-copy-out-note c = omega arith
 
 note-requires : tie.Need-note-requires Inv-loop μ-loop
 note-requires c κs = search needs
 
 add-d : tie.Need-add-d Inv-loop μ-loop
-add-d c = search needs
+add-d c = omega arith
 
 loop-less : tie.Need-loop-less Inv-loop μ-loop
 loop-less c = omega arith

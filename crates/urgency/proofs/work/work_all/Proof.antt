@@ -22,19 +22,19 @@ unfolding workTo
 loop-holds c = (omega arith, refl)
 
 mul-work-on : tie.Need-mul-work-on Inv-loop μ-loop
-mul-work-on c = search needs
+mul-work-on c = omega arith
 
 element-copy-out-work-on : tie.Need-element-copy-out-work-on Inv-loop μ-loop
-element-copy-out-work-on c = search needs
+element-copy-out-work-on c = omega arith
 
 work-on-requires : tie.Need-work-on-requires Inv-loop μ-loop
 work-on-requires c κs = search needs
 
 add-d : tie.Need-add-d Inv-loop μ-loop
-add-d c = search needs
+add-d c = omega arith
 
 loop-less : tie.Need-loop-less Inv-loop μ-loop
-loop-less c = search needs
+loop-less c = omega arith
 
 loop-again : tie.Need-loop-again Inv-loop μ-loop
 loop-again c =

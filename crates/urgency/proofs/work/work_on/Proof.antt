@@ -1,3 +1,4 @@
+use native.Mathlib.Omega.{arith}
 use Rattle.steps.specs.Work.{work}
 use Rattle.urgency.proofs.Worked.{nobody-works, works-on}
 use borrow.Author.Needs.{needs}
@@ -15,40 +16,40 @@ returns c =
     nobody-works (a .durations .now) (a .t) (a .next) (a .i) (work (a .left .now) (a .start .now) (a .finish .now)) (c .if1 .taken)
 
 mul-start-of : tie.Need-mul-start-of
-mul-start-of c = search needs
+mul-start-of c = omega arith
 
 element-copy-out-start-of : tie.Need-element-copy-out-start-of
-element-copy-out-start-of c = search needs
+element-copy-out-start-of c = omega arith
 
 mul-wide : tie.Need-mul-wide
-mul-wide c = search needs
+mul-wide c = omega arith
 
 element-copy-out-wide : tie.Need-element-copy-out-wide
-element-copy-out-wide c = search needs
+element-copy-out-wide c = omega arith
 
 wide-requires : tie.Need-wide-requires
 wide-requires c κs = search needs
 
 mul-start-of-2 : tie.Need-mul-start-of-2
-mul-start-of-2 c = search needs
+mul-start-of-2 c = omega arith
 
 element-copy-out-start-of-2 : tie.Need-element-copy-out-start-of-2
-element-copy-out-start-of-2 c = search needs
+element-copy-out-start-of-2 c = omega arith
 
 start-of-requires : tie.Need-start-of-requires
 start-of-requires c κs = search needs
 
 mul-start : tie.Need-mul-start
-mul-start c = search needs
+mul-start c = omega arith
 
 element-write-start : tie.Need-element-write-start
-element-write-start c = search needs
+element-write-start c = omega arith
 
 mul-less : tie.Need-mul-less
-mul-less c = search needs
+mul-less c = omega arith
 
 element-copy-out-less : tie.Need-element-copy-out-less
-element-copy-out-less c = search needs
+element-copy-out-less c = omega arith
 
 less-requires : tie.Need-less-requires
 less-requires c κs = search needs
@@ -57,16 +58,16 @@ less-requires-2 : tie.Need-less-requires-2
 less-requires-2 c κs = search needs
 
 mul-left : tie.Need-mul-left
-mul-left c = search needs
+mul-left c = omega arith
 
 element-write-left : tie.Need-element-write-left
-element-write-left c = search needs
+element-write-left c = omega arith
 
 mul-finish : tie.Need-mul-finish
-mul-finish c = search needs
+mul-finish c = omega arith
 
 element-write-finish : tie.Need-element-write-finish
-element-write-finish c = search needs
+element-write-finish c = omega arith
 
 returns-2 : tie.Need-returns-2
 returns-2 c =
