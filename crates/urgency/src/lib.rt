@@ -1,10 +1,8 @@
 // The plan by urgency, by decision moments: from one moment at which some piece becomes ready or is finished to the next,
 // never slot by slot. The pieces and links come in lent tables, and so do start, finish and the log of the runs.
-mod choice;
-mod handover;
-mod log;
-mod work;
-
+use moving::handover;
+use moving::log;
+use moving::work;
 ghost use mathlib.Core.Path.{_≡_};
 ghost use Prim.Native.Nat.{_≤_};
 ghost use lib.ListN.{length};
@@ -28,7 +26,7 @@ fn begin(
 {
     let mut i = 0;
     while i < n {
-        left[i] = work::wide(durations[i]);
+        left[i] = numbers::wide(durations[i]);
         ready[i] = releases[i];
         start[i] = 0;
         finish[i] = 0;
@@ -74,13 +72,26 @@ pub fn plan(
     links::chains::chain_links(befores, m, &mut tail, &mut prior);
     let mut runs = 0;
     let mut t = 0;
-    let mut next = choice::decide(n, t, desks, latests, &left, &waits, &ready, &mut chosen);
+    let mut next = deciding::decide(n, t, desks, latests, &left, &waits, &ready, &mut chosen);
     while next < 4294967295 {
         work::work_all(t, next, durations, &chosen, &mut left, start, finish);
         runs = log::note_all(t, next, runs, &chosen, &mut last, piece, from, until);
-        handover::hand_all(m, next, desks, befores, afters, handovers, &tail, &prior, &chosen, &left, &mut waits, &mut ready);
+        handover::hand_all(
+            m,
+            next,
+            desks,
+            befores,
+            afters,
+            handovers,
+            &tail,
+            &prior,
+            &chosen,
+            &left,
+            &mut waits,
+            &mut ready,
+        );
         t = next;
-        next = choice::decide(n, t, desks, latests, &left, &waits, &ready, &mut chosen);
+        next = deciding::decide(n, t, desks, latests, &left, &waits, &ready, &mut chosen);
     }
     runs
 }
