@@ -1,5 +1,5 @@
--- One piece looked at, by the ways the code takes: it is finished, it waits for a piece, it is to be ready later, or it is
--- ready and is put up for its desk.
+-- One piece looked at, by the ways the code takes: it is finished, it waits for a piece, it is to be ready later, or it
+-- is ready and is put up for its desk.
 use Prim.Native.Nat.{ℕ, _+_, _-_, _≤_, _<_, min}
 use mathlib.Core.List.{List}
 use mathlib.Core.Path.{_≡_, refl, sym}
@@ -9,22 +9,22 @@ use lib.Dec.{ltb}
 use lib.ListN.{getD}
 use Rattle.rules.specs.Words.{when}
 use Rattle.laws.proofs.Words.{by-test}
-use Rattle.steps.specs.Choice.{View, offered, isDue, consideredBy, momentWith, endWith}
+use Rattle.steps.specs.Choice.{View, offered, isDue, consideredBy, momentWith, Considered, endWith}
 
 module _ (v : View) (i : ℕ) (C : List ℕ) (next : ℕ) where
-  -- What becomes of the choice and of the next moment.
-  abbrev pub Becomes : List ℕ → ℕ → Type 0
-  Becomes D m = (D ≡ consideredBy v i C) × (m ≡ momentWith v i next)
+  abbrev Becomes : List ℕ → ℕ → Type 0
+  Becomes D m = Considered v i C next D m
 
   pub is-finished : getD (v .left) i 0 ≡ 0 → Becomes C next
   unfolding consideredBy momentWith isDue when
-  is-finished h = let e = le-ltb 0 (getD (v .left) i 0) (omega arith) in (rw e, rw e)
+  is-finished h =
+      let e = le-ltb 0 (getD (v .left) i 0) (omega arith) in record { chosen-is = rw e; next-is = rw e }
 
   pub waits-yet : 0 < getD (v .waits) i 0 → Becomes C next
   unfolding consideredBy momentWith isDue when
   waits-yet h =
       let e = ne-eqb (getD (v .waits) i 0) 0 (λ (z : getD (v .waits) i 0 ≡ 0). omega arith) in
-      by-test (ltb 0 (getD (v .left) i 0)) (λ a. (rw (a, e), rw (a, e))) (λ a. (rw a, rw a))
+      by-test (ltb 0 (getD (v .left) i 0)) (λ a. record { chosen-is = rw (a, e); next-is = rw (a, e) }) (λ a. record { chosen-is = rw a; next-is = rw a })
 
   pub ready-later : (getD (v .left) i 0 ≡ 0 → ⊥) → getD (v .waits) i 0 ≤ 0 → v .moment < getD (v .ready) i 0
       → Becomes C (min next (getD (v .ready) i 0))
@@ -32,7 +32,10 @@ module _ (v : View) (i : ℕ) (C : List ℕ) (next : ℕ) where
   ready-later h k l =
       let a = lt-ltb 0 (getD (v .left) i 0) (omega arith) in
       let b = eq-eqb (getD (v .waits) i 0) 0 (omega arith) in
-      (rw (a, b, lt-leb (getD (v .ready) i 0) (v .moment) l), rw (a, b, lt-ltb (v .moment) (getD (v .ready) i 0) l))
+      record {
+        chosen-is = rw (a, b, lt-leb (getD (v .ready) i 0) (v .moment) l);
+        next-is = rw (a, b, lt-ltb (v .moment) (getD (v .ready) i 0) l);
+      }
 
   pub ready-now : (getD (v .left) i 0 ≡ 0 → ⊥) → getD (v .waits) i 0 ≤ 0 → getD (v .ready) i 0 ≤ v .moment
       → Becomes (offered (v .latests) i (getD (v .desks) i 0) C) next
@@ -40,7 +43,10 @@ module _ (v : View) (i : ℕ) (C : List ℕ) (next : ℕ) where
   ready-now h k l =
       let a = lt-ltb 0 (getD (v .left) i 0) (omega arith) in
       let b = eq-eqb (getD (v .waits) i 0) 0 (omega arith) in
-      (rw (a, b, le-leb (getD (v .ready) i 0) (v .moment) l), rw (a, b, le-ltb (v .moment) (getD (v .ready) i 0) l))
+      record {
+        chosen-is = rw (a, b, le-leb (getD (v .ready) i 0) (v .moment) l);
+        next-is = rw (a, b, le-ltb (v .moment) (getD (v .ready) i 0) l);
+      }
 
 -- The end of a chosen piece, by the ways the code takes: there is none, it comes first, or it does not.
 pub nobody-ends : (t : ℕ) (left : List ℕ) (x next : ℕ) → 255 < x → next ≡ endWith t left x next
@@ -52,6 +58,7 @@ pub ends-first : (t : ℕ) (left : List ℕ) (x next k : ℕ) → x ≤ 255 → 
 unfolding endWith when
 ends-first t left x next k h e l = rw (lt-ltb x 256 (omega arith)) (omega arith)
 
-pub ends-later : (t : ℕ) (left : List ℕ) (x next k : ℕ) → x ≤ 255 → k ≡ next - t → k ≤ getD left x 0 → next ≡ endWith t left x next
+pub ends-later : (t : ℕ) (left : List ℕ) (x next k : ℕ) → x ≤ 255 → k ≡ next - t → k ≤ getD left x 0
+    → next ≡ endWith t left x next
 unfolding endWith when
 ends-later t left x next k h e l = rw (lt-ltb x 256 (omega arith)) (omega arith)

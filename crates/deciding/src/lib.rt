@@ -1,8 +1,9 @@
-// Who every desk works on from a moment on, and until when nothing is decided anew.
+// One decision of the plan over lent tables: who every desk works on from a moment on, and until when nothing is decided
+// anew. 256 stands for no piece, and 4,294,967,295 for no later moment.
 ghost use mathlib.Core.Path.{_≡_};
 ghost use Prim.Native.Nat.{ℕ, _<_, _≤_};
 ghost use lib.ListN.{getD};
-ghost use Rattle.steps.specs.Choice.{view, goesFirst, offered, consideredBy, momentWith, chosenFrom, readyNext, endWith, endNext, choiceOf, nextOf};
+ghost use Rattle.steps.specs.Choice.{view, goesFirst, offered, endWith, endNext, Considered, LookedAt, Decided};
 
 // Piece i goes before the piece that was best so far, 256 where there was none. The pieces come in rising order, so on an
 // equal latest moment the one so far has the lower number and stays.
@@ -39,8 +40,9 @@ fn consider(
     chosen: &mut [usize; 32],
 ) -> u32
     requires { ⌜ (i < 256) × (getD (now desks) i 0 < 32) ⌝ }
-    ensures { λ r. ⌜ (now (chosen .exit) ≡ consideredBy (view t (now (desks .entry)) (now (latests .entry)) (now (left .entry)) (now (waits .entry)) (now (ready .entry))) i (now (chosen .entry)))
-        × (r ≡ momentWith (view t (now (desks .entry)) (now (latests .entry)) (now (left .entry)) (now (waits .entry)) (now (ready .entry))) i next) ⌝ }
+    ensures { λ r. ⌜ Considered (view t (now (desks .entry)) (now (latests .entry)) (now (left .entry))
+        (now (waits .entry)) (now (ready .entry)))
+        i (now (chosen .entry)) next (now (chosen .exit)) r ⌝ }
 {
     if left[i] == 0 {
         return next;
@@ -67,8 +69,9 @@ fn choose(
     chosen: &mut [usize; 32],
 ) -> u32
     requires { ⌜ (n ≤ 256) × ((i : ℕ) → i < n → getD (now desks) i 0 < 32) ⌝ }
-    ensures { λ r. ⌜ (now (chosen .exit) ≡ chosenFrom (view t (now (desks .entry)) (now (latests .entry)) (now (left .entry)) (now (waits .entry)) (now (ready .entry))) n (now (chosen .entry)))
-        × (r ≡ readyNext (view t (now (desks .entry)) (now (latests .entry)) (now (left .entry)) (now (waits .entry)) (now (ready .entry))) n 4294967295) ⌝ }
+    ensures { λ r. ⌜ LookedAt (view t (now (desks .entry)) (now (latests .entry)) (now (left .entry))
+        (now (waits .entry)) (now (ready .entry)))
+        n (now (chosen .entry)) (now (chosen .exit)) r ⌝ }
 {
     let mut next = 4294967295;
     let mut i = 0;
@@ -117,8 +120,9 @@ pub fn decide(
     chosen: &mut [usize; 32],
 ) -> u32
     requires { ⌜ (n ≤ 256) × ((i : ℕ) → i < n → getD (now desks) i 0 < 32) ⌝ }
-    ensures { λ r. ⌜ (now (chosen .exit) ≡ choiceOf (view t (now (desks .entry)) (now (latests .entry)) (now (left .entry)) (now (waits .entry)) (now (ready .entry))) n)
-        × (r ≡ nextOf (view t (now (desks .entry)) (now (latests .entry)) (now (left .entry)) (now (waits .entry)) (now (ready .entry))) n) ⌝ }
+    ensures { λ r. ⌜ Decided (view t (now (desks .entry)) (now (latests .entry)) (now (left .entry))
+        (now (waits .entry)) (now (ready .entry)))
+        n (now (chosen .exit)) r ⌝ }
 {
     *chosen = [256; 32];
     let later = choose(n, t, desks, latests, left, waits, ready, chosen);

@@ -1,10 +1,17 @@
-use native.Mathlib.Omega.{arith}
+-- `consider` looks at one piece. Each return is one of the ways of `Considered`: the piece is finished, waits for a piece, is
+-- ready later, or is put up for its desk.
 use mathlib.Core.Path.{_∙_}
-use Rattle.steps.specs.Choice.{view}
-use Rattle.deciding.proofs.Considered.{is-finished, waits-yet, ready-later, ready-now}
+use native.Mathlib.Omega.{arith}
 use borrow.Author.Needs.{needs}
+use Rattle.steps.specs.Choice.{View, view}
+use Rattle.deciding.proofs.Considered.{is-finished, waits-yet, ready-later, ready-now}
 use Rattle.deciding.proofs.consider.Statement.{statement}
 use Rattle.deciding.proofs.consider.Tie as tie
+
+-- What the function sees.
+abbrev seen : tie.Start → View
+seen s =
+    let a = s .args in view (a .t) (a .desks .now) (a .latests .now) (a .left .now) (a .waits .now) (a .ready .now)
 
 mul-if1 : tie.Need-mul-if1
 mul-if1 c = omega arith
@@ -14,9 +21,9 @@ element-copy-out-if1 c = omega arith
 
 returns : tie.Need-returns
 returns c =
-    let a = c .before .before .args in
-    let v = view (a .t) (a .desks .now) (a .latests .now) (a .left .now) (a .waits .now) (a .ready .now) in
-    is-finished v (a .i) (a .chosen .now) (a .next) (c .if1 .taken)
+    let s = c .before .before in
+    let a = s .args in
+    is-finished (seen s) (a .i) (a .chosen .now) (a .next) (c .if1 .taken)
 
 mul-if2 : tie.Need-mul-if2
 mul-if2 c = omega arith
@@ -26,9 +33,9 @@ element-copy-out-if2 c = omega arith
 
 returns-2 : tie.Need-returns-2
 returns-2 c =
-    let a = c .before .before .before .before .args in
-    let v = view (a .t) (a .desks .now) (a .latests .now) (a .left .now) (a .waits .now) (a .ready .now) in
-    waits-yet v (a .i) (a .chosen .now) (a .next) (c .if2 .taken)
+    let s = c .before .before .before .before in
+    let a = s .args in
+    waits-yet (seen s) (a .i) (a .chosen .now) (a .next) (c .if2 .taken)
 
 mul-if3 : tie.Need-mul-if3
 mul-if3 c = omega arith
@@ -47,11 +54,13 @@ lesser-requires c κs = search needs
 
 returns-3 : tie.Need-returns-3
 returns-3 c =
-    let a = c .before .before .before .before .before .before .before .before .args in
-    let v = view (a .t) (a .desks .now) (a .latests .now) (a .left .now) (a .waits .now) (a .ready .now) in
-    let w = ready-later v (a .i) (a .chosen .now) (a .next) (c .before .before .before .before .before .before .if1 .left)
-    (c .before .before .before .before .if2 .left) (c .before .before .if3 .taken) in
-    (w .0, c .lesser .ensures ∙ w .1)
+    let test2 = c .before .before .before .before in
+    let test1 = test2 .before .before in
+    let s = test1 .before .before in
+    let a = s .args in
+    let w = ready-later (seen s) (a .i) (a .chosen .now) (a .next) (test1 .if1 .left) (test2 .if2 .left)
+    (c .before .before .if3 .taken) in
+    record { chosen-is = w .chosen-is; next-is = c .lesser .ensures ∙ w .next-is }
 
 element-copy-out-offer : tie.Need-element-copy-out-offer
 element-copy-out-offer c = omega arith
@@ -64,11 +73,13 @@ offer-requires c κs = search needs
 
 returns-4 : tie.Need-returns-4
 returns-4 c =
-    let a = c .before .before .before .before .before .before .before .before .before .args in
-    let v = view (a .t) (a .desks .now) (a .latests .now) (a .left .now) (a .waits .now) (a .ready .now) in
-    let w = ready-now v (a .i) (a .chosen .now) (a .next) (c .before .before .before .before .before .before .before .if1 .left)
-    (c .before .before .before .before .before .if2 .left) (c .before .before .before .if3 .left) in
-    (c .offer .ensures ∙ w .0, w .1)
+    let test2 = c .before .before .before .before .before in
+    let test1 = test2 .before .before in
+    let s = test1 .before .before in
+    let a = s .args in
+    let w = ready-now (seen s) (a .i) (a .chosen .now) (a .next) (test1 .if1 .left) (test2 .if2 .left)
+    (c .before .before .before .if3 .left) in
+    record { chosen-is = c .offer .ensures ∙ w .chosen-is; next-is = w .next-is }
 
 pub consider-spec : {M : Type 1} → statement M
 consider-spec =

@@ -1,3 +1,5 @@
+-- `earlier_end` counts the end of one chosen piece. Each return is one of the ways: there is no piece, its end comes first,
+-- or it does not.
 use native.Mathlib.Omega.{arith}
 use Rattle.deciding.proofs.Considered.{nobody-ends, ends-first, ends-later}
 use borrow.Author.Needs.{needs}

@@ -1,3 +1,4 @@
+-- `first_end` goes over the desks. The loop's invariant: the least moment so far is that over the first d desks.
 use Prim.Native.Nat.{_≤_, _-_}
 use mathlib.Core.Path.{_≡_, refl, sym, ap, _∙_}
 use native.Mathlib.Omega.{arith}

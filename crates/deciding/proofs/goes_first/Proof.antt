@@ -1,3 +1,4 @@
+-- `goes_first` compares two latest moments. They are signed numbers, which the machine reads back out of their bits.
 use native.Mathlib.Omega.{arith}
 use borrow.Author.Tests.{le-ltb, lt-ltb}
 use lib.IntN.{pos}

@@ -1,3 +1,4 @@
+-- `offer` stores the piece for its desk where it goes before the best so far, and else nothing.
 use native.Mathlib.Omega.{arith}
 use borrow.Author.Needs.{needs}
 use mathlib.Core.Path.{sym, _∙_}

@@ -1,3 +1,4 @@
+-- `begin` goes over the pieces. The loop's invariant: the first i places of the tables are as before the first slot.
 use Prim.Native.Nat.{_≤_, _-_}
 use mathlib.Core.Path.{_≡_}
 use native.Mathlib.Omega.{arith}

@@ -1,3 +1,4 @@
+-- `delay` is nothing on one desk and else the handover; in both ways no more than the handover.
 use mathlib.Core.Path.{sym}
 use native.Mathlib.Omega.{arith}
 use borrow.Author.Tests.{eq-eqb, ne-eqb}

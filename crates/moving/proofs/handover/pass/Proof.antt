@@ -1,3 +1,4 @@
+-- `pass` stores what one link lets go: one wait less, and the greater of two ready moments.
 use native.Mathlib.Omega.{arith}
 use Rattle.steps.specs.Handover.{ties, waiting}
 use Rattle.moving.proofs.Passed.{passed-on, delay-is}

@@ -1,3 +1,4 @@
+-- `goes_on` tests the run at a place of the log: there is one, it is of the piece, and it ends at the moment.
 use native.Mathlib.Omega.{arith}
 use mathlib.Core.Path.{sym, _∙_}
 use Rattle.moving.proofs.Noted.{no-place, other-piece, same-piece}

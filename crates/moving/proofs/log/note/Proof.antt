@@ -1,18 +1,22 @@
+-- `note` makes the desk's last run longer or puts a run behind the others. Each return is one of the ways of the
+-- definition: no piece, the run goes on, the log is full, a run begins.
 use Prim.Native.Nat.{_<_}
 use mathlib.Core.Path.{sym, _∙_}
 use native.Mathlib.Omega.{arith}
 use lib.ListN.{getD}
-use Rattle.steps.specs.Log.{log}
+use Rattle.steps.specs.Log.{Log, log}
 use Rattle.moving.proofs.Noted.{stays-inside, nobody-noted, run-longer, log-full, run-begins}
 use borrow.Author.Needs.{needs}
 use Rattle.moving.proofs.log.note.Statement.{statement}
 use Rattle.moving.proofs.log.note.Tie as tie
 
+-- The log as the function finds it.
+abbrev was : tie.Start → Log
+was s = let a = s .args in log (a .runs) (a .last .now) (a .piece .now) (a .from .now) (a .until .now)
+
 returns : tie.Need-returns
 returns c =
-    let a = c .before .args in
-    let l = log (a .runs) (a .last .now) (a .piece .now) (a .from .now) (a .until .now) in
-    nobody-noted (a .t) (a .next) (a .d) (a .i) l (c .if1 .taken)
+    let a = c .before .args in nobody-noted (a .t) (a .next) (a .d) (a .i) (was (c .before)) (c .if1 .taken)
 
 mul-k : tie.Need-mul-k
 mul-k c = omega arith
@@ -23,10 +27,14 @@ element-copy-out-k c = omega arith
 goes-on-requires : tie.Need-goes-on-requires
 goes-on-requires c κs = search needs
 
+-- The way back from the answer of `goes_on` to the entry.
+abbrev entry : tie.After-goes-on → tie.Start
+entry c = c .before .before .before .before .before
+
 -- The run that goes on has a place in the log.
-place-in : (c : tie.Then2) → getD (c .before .before .before .before .before .before .args .last .now) (c .before .before .before .before .before .before .args .d) 0 < 512
+place-in : (c : tie.Then2) → getD (entry (c .before) .args .last .now) (entry (c .before) .args .d) 0 < 512
 place-in c =
-    let a = c .before .before .before .before .before .before .args in
+    let a = entry (c .before) .args in
     stays-inside (a .piece .now) (a .until .now) (getD (a .last .now) (a .d) 0) (a .i) (a .t)
     (sym (c .before .goes-on .ensures) ∙ c .if2 .taken)
 
@@ -38,16 +46,17 @@ element-write-until c = place-in c
 
 returns-2 : tie.Need-returns-2
 returns-2 c =
-    let a = c .before .before .before .before .before .before .args in
-    let l = log (a .runs) (a .last .now) (a .piece .now) (a .from .now) (a .until .now) in
-    run-longer (a .t) (a .next) (a .d) (a .i) l (c .before .before .before .before .before .if1 .left) (sym (c .before .goes-on .ensures) ∙ c .if2 .taken)
+    let g = c .before in
+    let a = entry g .args in
+    run-longer (a .t) (a .next) (a .d) (a .i) (was (entry g)) (g .before .before .before .before .if1 .left)
+    (sym (g .goes-on .ensures) ∙ c .if2 .taken)
 
 returns-3 : tie.Need-returns-3
 returns-3 c =
-    let a = c .before .before .before .before .before .before .before .args in
-    let l = log (a .runs) (a .last .now) (a .piece .now) (a .from .now) (a .until .now) in
-    log-full (a .t) (a .next) (a .d) (a .i) l (c .before .before .before .before .before .before .if1 .left) (sym (c .before .before .goes-on .ensures) ∙ c .before .if2 .left)
-    (c .if3 .taken)
+    let g = c .before .before in
+    let a = entry g .args in
+    log-full (a .t) (a .next) (a .d) (a .i) (was (entry g)) (g .before .before .before .before .if1 .left)
+    (sym (g .goes-on .ensures) ∙ c .before .if2 .left) (c .if3 .taken)
 
 cast-piece : tie.Need-cast-piece
 cast-piece c = omega arith
@@ -81,10 +90,10 @@ add-result c = omega arith
 
 returns-4 : tie.Need-returns-4
 returns-4 c =
-    let a = c .before .before .before .before .before .before .before .args in
-    let l = log (a .runs) (a .last .now) (a .piece .now) (a .from .now) (a .until .now) in
-    run-begins (a .t) (a .next) (a .d) (a .i) l (c .before .before .before .before .before .before .if1 .left) (sym (c .before .before .goes-on .ensures) ∙ c .before .if2 .left)
-    (c .if3 .left)
+    let g = c .before .before in
+    let a = entry g .args in
+    run-begins (a .t) (a .next) (a .d) (a .i) (was (entry g)) (g .before .before .before .before .if1 .left)
+    (sym (g .goes-on .ensures) ∙ c .before .if2 .left) (c .if3 .left)
 
 pub note-spec : {M : Type 1} → statement M
 note-spec =

@@ -1,3 +1,4 @@
+-- `note_all` goes over the desks. The loop's invariant: the log is what the first d desks make of it.
 use Prim.Native.Nat.{_≤_, _-_}
 use mathlib.Core.Path.{_≡_, refl, sym, ap, _∙_}
 use native.Mathlib.Omega.{arith}

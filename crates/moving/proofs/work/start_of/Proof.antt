@@ -1,3 +1,4 @@
+-- `start_of` is the moment where nothing was worked off the piece yet, and else the start it has.
 use mathlib.Core.Path.{sym}
 use borrow.Author.Tests.{eq-eqb, ne-eqb}
 use Rattle.laws.proofs.Words.{when-true, when-false}

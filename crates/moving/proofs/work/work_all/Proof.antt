@@ -1,3 +1,4 @@
+-- `work_all` goes over the desks. The loop's invariant: the tables are what the first d desks make of them.
 use Prim.Native.Nat.{_≤_, _-_}
 use mathlib.Core.Path.{_≡_, refl, sym, ap, _∙_}
 use native.Mathlib.Omega.{arith}

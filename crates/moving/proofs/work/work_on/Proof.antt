@@ -1,3 +1,4 @@
+-- `work_on` stores start, slots left and finish of one piece, or nothing where there is no piece.
 use native.Mathlib.Omega.{arith}
 use Rattle.steps.specs.Work.{work}
 use Rattle.moving.proofs.Worked.{nobody-works, works-on}
