@@ -24,7 +24,8 @@ module _ (v : View) (i : ℕ) (C : List ℕ) (next : ℕ) where
   unfolding consideredBy momentWith isDue when
   waits-yet h =
       let e = ne-eqb (getD (v .waits) i 0) 0 (λ (z : getD (v .waits) i 0 ≡ 0). omega arith) in
-      by-test (ltb 0 (getD (v .left) i 0)) (λ a. record { chosen-is = rw (a, e); next-is = rw (a, e) }) (λ a. record { chosen-is = rw a; next-is = rw a })
+      by-test (ltb 0 (getD (v .left) i 0)) (λ a. record { chosen-is = rw (a, e); next-is = rw (a, e) })
+      (λ a. record { chosen-is = rw a; next-is = rw a })
 
   pub ready-later : (getD (v .left) i 0 ≡ 0 → ⊥) → getD (v .waits) i 0 ≤ 0 → v .moment < getD (v .ready) i 0
       → Becomes C (min next (getD (v .ready) i 0))

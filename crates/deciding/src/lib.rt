@@ -5,6 +5,9 @@ ghost use Prim.Native.Nat.{ℕ, _<_, _≤_};
 ghost use lib.ListN.{getD};
 ghost use Rattle.steps.specs.Choice.{view, goesFirst, offered, endWith, endNext, Considered, LookedAt, Decided};
 
+// No later moment.
+pub const NEVER: u32 = 4294967295;
+
 // Piece i goes before the piece that was best so far, 256 where there was none. The pieces come in rising order, so on an
 // equal latest moment the one so far has the lower number and stays.
 fn goes_first(latests: &[i32; 256], i: usize, so_far: usize) -> bool
@@ -73,7 +76,7 @@ fn choose(
         (now (waits .entry)) (now (ready .entry)))
         n (now (chosen .entry)) (now (chosen .exit)) r ⌝ }
 {
-    let mut next = 4294967295;
+    let mut next = NEVER;
     let mut i = 0;
     while i < n {
         next = consider(i, t, next, desks, latests, left, waits, ready, chosen);

@@ -13,8 +13,8 @@ use Rattle.laws.proofs.Words.{by-test, when-true, when-false}
 use Rattle.links.specs.Chains.{lastWith}
 use Rattle.steps.specs.Handover.{Ties, ties, Waiting, waiting, delayOf, passed, passFrom, handOn, handTo}
 
--- The last link of a piece among the first n is one of these, and the piece's own; what is passed on from there on back is
--- all that is passed on. 0 says that there is none, and then nothing is.
+-- The last link of a piece among the first n is one of these, and the piece's own; what is passed on from there on
+-- back is all that is passed on. 0 says that there is none, and then nothing is.
 pub last-most : (befores : List ℕ) (p n : ℕ) → lastWith befores p n ≤ n
 unfolding lastWith
 last-most befores p zero = omega arith
@@ -51,7 +51,8 @@ pub passed-on : (l : Ties) (c k w r d : ℕ) (s : Waiting) → w ≡ getD (s .wa
 passed-on l c k w r d s a e b = rw (a, b, e)
 
 pub delay-is : (l : Ties) (k h d : ℕ) → h ≡ getD (l .handovers) k 0
-    → d ≡ when (eqb (getD (l .desks) (getD (l .befores) k 0) 0) (getD (l .desks) (getD (l .afters) k 0) 0)) 0 h → d ≡ delayOf l k
+    → d ≡ when (eqb (getD (l .desks) (getD (l .befores) k 0) 0) (getD (l .desks) (getD (l .afters) k 0) 0)) 0 h
+    → d ≡ delayOf l k
 unfolding delayOf
 delay-is l k h d e f = f ∙ rw e
 

@@ -25,6 +25,7 @@ module _ (durations : List ℕ) (t next : ℕ) where
       rw (a, f, e, b) (sym (when-true _ (forth durations t next i w) w (lt-ltb i 256 (omega arith))))
 
   pub work-more : (chosen : List ℕ) (d : ℕ) (w : Work)
-      → workTo durations t next chosen (d + 1) w ≡ workOn durations t next (getD chosen d 0) (workTo durations t next chosen d w)
+      → workTo durations t next chosen (d + 1) w ≡ workOn durations t next (getD chosen d 0)
+      (workTo durations t next chosen d w)
   unfolding workTo
   work-more chosen d w = rw (add-one d)

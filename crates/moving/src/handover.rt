@@ -43,7 +43,8 @@ fn pass(
 )
     requires { ⌜ (k < 1024) × (getD (now befores) k 0 < 256) × (getD (now afters) k 0 < 256) × (c < 4000000000) ⌝ }
     ensures { λ _. ⌜ waiting (now (waits .exit)) (now (ready .exit))
-        ≡ passed (ties (now (desks .entry)) (now (befores .entry)) (now (afters .entry)) (now (handovers .entry))) c k (waiting (now (waits .entry)) (now (ready .entry))) ⌝ }
+        ≡ passed (ties (now (desks .entry)) (now (befores .entry)) (now (afters .entry))
+        (now (handovers .entry))) c k (waiting (now (waits .entry)) (now (ready .entry))) ⌝ }
 {
     let b = befores[k] as usize;
     let a = afters[k] as usize;
@@ -72,7 +73,8 @@ fn pass_on(
     requires { ⌜ Chained (now befores) m (now last) (now prior) ⌝ }
     requires { ⌜ (p < 256) × (c < 4000000000) ⌝ }
     ensures { λ _. ⌜ waiting (now (waits .exit)) (now (ready .exit))
-        ≡ passFrom (ties (now (desks .entry)) (now (befores .entry)) (now (afters .entry)) (now (handovers .entry))) p c m (waiting (now (waits .entry)) (now (ready .entry))) ⌝ }
+        ≡ passFrom (ties (now (desks .entry)) (now (befores .entry)) (now (afters .entry))
+        (now (handovers .entry))) p c m (waiting (now (waits .entry)) (now (ready .entry))) ⌝ }
 {
     let mut next = numbers::place(last[p]);
     while 0 < next {
@@ -101,7 +103,8 @@ fn hand_on(
     requires { ⌜ Chained (now befores) m (now last) (now prior) ⌝ }
     requires { ⌜ c < 4000000000 ⌝ }
     ensures { λ _. ⌜ waiting (now (waits .exit)) (now (ready .exit))
-        ≡ handOn (ties (now (desks .entry)) (now (befores .entry)) (now (afters .entry)) (now (handovers .entry))) m c (now (left .entry)) i (waiting (now (waits .entry)) (now (ready .entry))) ⌝ }
+        ≡ handOn (ties (now (desks .entry)) (now (befores .entry)) (now (afters .entry))
+        (now (handovers .entry))) m c (now (left .entry)) i (waiting (now (waits .entry)) (now (ready .entry))) ⌝ }
 {
     if 255 < i {
         return;
@@ -143,7 +146,9 @@ pub fn hand_all(
     requires { ⌜ Chained (now befores) m (now last) (now prior) ⌝ }
     requires { ⌜ c < 4000000000 ⌝ }
     ensures { λ _. ⌜ waiting (now (waits .exit)) (now (ready .exit))
-        ≡ handTo (ties (now (desks .entry)) (now (befores .entry)) (now (afters .entry)) (now (handovers .entry))) m c (now (left .entry)) (now (chosen .entry)) 32 (waiting (now (waits .entry)) (now (ready .entry))) ⌝ }
+        ≡ handTo (ties (now (desks .entry)) (now (befores .entry)) (now (afters .entry))
+        (now (handovers .entry))) m c (now (left .entry)) (now (chosen .entry)) 32
+        (waiting (now (waits .entry)) (now (ready .entry))) ⌝ }
 {
     let mut d = 0;
     while d < 32 {

@@ -1,5 +1,5 @@
-// The log of the runs, in the order in which they begin. `last` has the place of each desk's last run in it, 512 where the
-// desk has none.
+// The log of the runs, in the order in which they begin. `last` has the place of each desk's last run in it, 512
+// where the desk has none.
 ghost use mathlib.Core.Path.{_≡_};
 ghost use Prim.Native.Nat.{_<_};
 ghost use Rattle.steps.specs.Log.{log, stays, noteOn, noteTo};

@@ -124,7 +124,8 @@ module _ (w : ℕ → Option ℕ) where
         → A ++ runsFrom (some r) (map turn (row t n)) ≡ grownOver (A ++ (r ∷ [])) t n
     under-way-grown zero t A r e = refl
     under-way-grown (suc n) t A r e = by-choice (w t)
-        (λ q. rw q (sym (append-assoc A (r ∷ []) _) ∙ closed-grown n (suc t) (A ++ (r ∷ [])) (over-last A r (suc t) (omega arith))))
+        (λ q. rw q (sym (append-assoc A (r ∷ []) _) ∙ closed-grown n (suc t) (A ++ (r ∷ []))
+        (over-last A r (suc t) (omega arith))))
         (λ i q. by-test (eqb (r .piece) i)
         (λ a. rw (q, a, grown-on A r i t 1 (eqb-true _ i a) e, e, when)
         (under-way-grown n (suc t) A (longerRun r t) (omega arith)))

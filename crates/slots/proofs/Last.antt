@@ -40,7 +40,8 @@ last-end (x ∷ y ∷ A) r = last-end (y ∷ A) r
 -- The runs that have grown by slots on a piece end with a run of it, at the end of those slots.
 pub grown-ends : (A : List Run) (i t k : ℕ) → (lastPiece (grown A i t k) ≡ some i) × (lastEnd (grown A i t k) ≡ t + k)
 unfolding grown lastPiece lastEnd
-grown-ends A i t k = by-last (λ l. (lastPiece (grown l i t k) ≡ some i) × (lastEnd (grown l i t k) ≡ t + k)) A (refl, refl) more
+grown-ends A i t k = by-last (λ l. (lastPiece (grown l i t k) ≡ some i) × (lastEnd (grown l i t k) ≡ t + k)) A
+    (refl, refl) more
   where
     more : (B : List Run) (r : Run)
         → (lastPiece (grown (B ++ (r ∷ [])) i t k) ≡ some i) × (lastEnd (grown (B ++ (r ∷ [])) i t k) ≡ t + k)
@@ -159,5 +160,6 @@ module _ (J : Job) where
         by-test (ltb (at J t i .left) (duration J i))
         (λ b. true-or-false
         (sym (c .first j (u .waits) (λ z. ne (sym z)))
-        ∙ sooner-asym J j i (u .first i (c .waits .inside) (c .waits .on-desk) ne (ltb-true _ _ b) (c .waits .unfinished))))
+        ∙ sooner-asym J j i (u .first i (c .waits .inside) (c .waits .on-desk) ne (ltb-true _ _ b)
+        (c .waits .unfinished))))
         (λ b. omega (arith, ltb-false (at J t i .left) (duration J i) b, left-whole J t i (c .waits .inside)))

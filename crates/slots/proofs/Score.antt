@@ -127,7 +127,8 @@ module _ (J : Job) where
         (i, w .inside, w .on-desk, omega arith)
 
     -- .. or it was finished before.
-    old-rises : (d t i j : ℕ) → worked J d t ≡ some i → lastOn J d t ≡ some j → (i ≡ j → ⊥) → at J t j .left ≡ 0 → Rises d t
+    old-rises : (d t i j : ℕ) → worked J d t ≡ some i → lastOn J d t ≡ some j → (i ≡ j → ⊥) → at J t j .left ≡ 0
+        → Rises d t
     old-rises d t i j e l ne f =
         let w = last-inside J d t j l in
         let q : desk J j ≡ d = w .1 in

@@ -34,7 +34,8 @@ at-more i [] l = omega arith
 at-more i (x ∷ ls) l =
     let ih : linksAt i (ls ++ (l ∷ [])) ≡ linksAt i ls + when (eqb (l .after) i) 1 0 = at-more i ls l in omega arith
 
-into-links : (befores afters handovers : List ℕ) (i m : ℕ) → intoOf afters i m ≡ linksAt i (map (linkIn befores afters handovers) (below m))
+into-links : (befores afters handovers : List ℕ) (i m : ℕ)
+    → intoOf afters i m ≡ linksAt i (map (linkIn befores afters handovers) (below m))
 unfolding intoOf linksAt below linkIn
 into-links befores afters handovers i zero = refl
 into-links befores afters handovers i (suc m) =
@@ -62,9 +63,15 @@ module _ (J : Job) (sound : Sound J) (n : ℕ) (count : pieceCount J ≡ n) wher
   none-done : (k : Link) → Mem k (J .links) → done (at J 0) (k .before) ≡ false
   none-done k m =
       left-undone (at J 0) (k .before)
-      (omega (arith, ap (λ p. p .left) (work-start J (k .before)), fits J sound (k .before) (link-fit J sound k m .before-one) .duration-least))
+      (omega (
+        arith,
+        ap (λ p. p .left) (work-start J (k .before)),
+        fits J sound (k .before)
+            (link-fit J sound k m .before-one) .duration-least,
+      ))
 
-  pub begun-waits : (m : ℕ) (releases befores afters handovers : List ℕ) → ((i : ℕ) → i < n → piece J i .release ≡ getD releases i 0)
+  pub begun-waits : (m : ℕ) (releases befores afters handovers : List ℕ)
+      → ((i : ℕ) → i < n → piece J i .release ≡ getD releases i 0)
       → J .links ≡ map (linkIn befores afters handovers) (below m) → (s : Waiting)
       → length (s .waits) ≡ 256 → length (s .ready) ≡ 256 → ((i : ℕ) → i < n → getD (s .waits) i 0 ≡ intoOf afters i m)
       → ((i : ℕ) → i < n → getD (s .ready) i 0 ≡ getD releases i 0) → WaitHeld J n (at J 0) s

@@ -41,7 +41,8 @@ pub record Shown (J : Job) (n : ℕ) (v : View) : Type 0 where
 
 module _ (J : Job) (n : ℕ) (v : View) (s : Shown J n v) where
   -- What is due: unfinished, and waiting for no piece.
-  pub due-facts : (i : ℕ) → i < n → isDue v i ≡ true → (0 < at J (v .moment) i .left) × (waitsOf J (at J (v .moment)) i ≡ 0)
+  pub due-facts : (i : ℕ) → i < n → isDue v i ≡ true
+      → (0 < at J (v .moment) i .left) × (waitsOf J (at J (v .moment)) i ≡ 0)
   unfolding isDue
   due-facts i h e =
       let w = and-true (ltb 0 (getD (v .left) i 0)) (eqb (getD (v .waits) i 0) 0) e in (
@@ -52,7 +53,8 @@ module _ (J : Job) (n : ℕ) (v : View) (s : Shown J n v) where
   pub facts-due : (i : ℕ) → i < n → 0 < at J (v .moment) i .left → waitsOf J (at J (v .moment)) i ≡ 0 → isDue v i ≡ true
   unfolding isDue
   facts-due i h l w =
-      and-intro _ _ (lt-ltb 0 (getD (v .left) i 0) (rw (s .left-is i h) l)) (eq-eqb (getD (v .waits) i 0) 0 (s .waits-is i h ∙ w))
+      and-intro _ _ (lt-ltb 0 (getD (v .left) i 0) (rw (s .left-is i h) l))
+      (eq-eqb (getD (v .waits) i 0) 0 (s .waits-is i h ∙ w))
 
   -- The test that the code makes of piece i.
   fit : ℕ → Bool
@@ -76,7 +78,8 @@ module _ (J : Job) (n : ℕ) (v : View) (s : Shown J n v) where
   waits-fit d i w =
       let h : i < n = rw (s .count) at (w .inside) in
       let r = ready-waits J (workAt J (v .moment)) (v .moment) i (w .is-ready) in
-      and-intro _ _ (facts-due i h (w .unfinished) (r .0)) (le-leb (getD (v .ready) i 0) (v .moment) (rw (s .ready-is i h) (r .1)))
+      and-intro _ _ (facts-due i h (w .unfinished) (r .0))
+      (le-leb (getD (v .ready) i 0) (v .moment) (rw (s .ready-is i h) (r .1)))
 
   -- The best of the first k pieces for desk d: none of them fits, or it is x.
   record Best (k d x : ℕ) : Type 0 where
@@ -140,11 +143,13 @@ module _ (J : Job) (n : ℕ) (v : View) (s : Shown J n v) where
   }
 
   -- By the latest moments: a smaller one goes before, and on an equal one the lower number does.
-  goes-before : (k x : ℕ) → k < n → x < k → ltZ (getD (v .latests) k (pos 0)) (getD (v .latests) x (pos 0)) ≡ true → sooner J k x ≡ true
+  goes-before : (k x : ℕ) → k < n → x < k → ltZ (getD (v .latests) k (pos 0)) (getD (v .latests) x (pos 0)) ≡ true
+      → sooner J k x ≡ true
   goes-before k x h l e =
       smaller-sooner J k x (ltZ-lt _ _ (rw (s .latest-is k h, s .latest-is x (omega arith)) at e))
 
-  goes-behind : (k x : ℕ) → k < n → x < k → ltZ (getD (v .latests) k (pos 0)) (getD (v .latests) x (pos 0)) ≡ false → sooner J x k ≡ true
+  goes-behind : (k x : ℕ) → k < n → x < k → ltZ (getD (v .latests) k (pos 0)) (getD (v .latests) x (pos 0)) ≡ false
+      → sooner J x k ≡ true
   goes-behind k x h l e =
       lower-sooner J x k (ltZ-le _ _ (rw (s .latest-is k h, s .latest-is x (omega arith)) at e)) l
 
@@ -185,21 +190,25 @@ module _ (J : Job) (n : ℕ) (v : View) (s : Shown J n v) where
     unfolding offered Found
     own-found f w = by-test goes
         (λ g. rw (when-true goes (set D own k) D g, getD-set-same D own k 0 (omega (arith, s .desk-most k h)))
-        (inr (taken k own (getD D own 0) w (s .desk-is k h) f (λ l. goes-before k (getD D own 0) h l (sym (goes-latest l) ∙ g)))))
+        (inr (taken k own (getD D own 0) w (s .desk-is k h) f
+        (λ l. goes-before k (getD D own 0) h l (sym (goes-latest l) ∙ g)))))
         (λ g. rw (when-false goes (set D own k) D g) (kept g w))
       where
         kept : goes ≡ false → Found k own (getD D own 0) → Found (suc k) own (getD D own 0)
         kept g (inl u) = true-or-false (sym (goes-nobody (u .0)) ∙ g)
-        kept g (inr b) = inr (stays k own (getD D own 0) b (goes-behind k (getD D own 0) h (b .inside) (sym (goes-latest (b .inside)) ∙ g)))
+        kept g (inr b) = inr (stays k own (getD D own 0) b
+            (goes-behind k (getD D own 0) h (b .inside) (sym (goes-latest (b .inside)) ∙ g)))
 
-    other-found : (d : ℕ) → (own ≡ d → ⊥) → Found k d (getD D d 0) → Found (suc k) d (getD (offered (v .latests) k own D) d 0)
+    other-found : (d : ℕ) → (own ≡ d → ⊥) → Found k d (getD D d 0)
+        → Found (suc k) d (getD (offered (v .latests) k own D) d 0)
     unfolding offered
     other-found d ne w = by-test goes
         (λ g. rw (when-true goes (set D own k) D g, getD-set-other D own d k 0 (λ z. ne (sym z)))
         (passed-over k d (getD D d 0) w (λ q f. other-desk d q ne)))
         (λ g. rw (when-false goes (set D own k) D g) (passed-over k d (getD D d 0) w (λ q f. other-desk d q ne)))
 
-    offered-found : (d : ℕ) → fit k ≡ true → Found k d (getD D d 0) → Found (suc k) d (getD (offered (v .latests) k own D) d 0)
+    offered-found : (d : ℕ) → fit k ≡ true → Found k d (getD D d 0)
+        → Found (suc k) d (getD (offered (v .latests) k own D) d 0)
     offered-found d f w = by-test (eqb own d)
         (λ z. let q : own ≡ d = eqb-true own d z in rw (← q) (own-found f (rw (← q) at w)))
         (λ z. other-found d (eqb-false own d z) w)

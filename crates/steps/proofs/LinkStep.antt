@@ -35,11 +35,13 @@ module _ (J : Job) (p c i : ℕ) where
   unfolding linksTo
   to-more [] l = omega arith
   to-more (x ∷ ls) l =
-      let ih : linksTo p i (ls ++ (l ∷ [])) ≡ linksTo p i ls + when (eqb (l .before) p && eqb (l .after) i) 1 0 = to-more ls l in
+      let ih : linksTo p i (ls ++ (l ∷ [])) ≡ linksTo p i ls + when
+      (eqb (l .before) p && eqb (l .after) i) 1 0 = to-more ls l in
       omega arith
 
   asked-more : (ls : List Link) (l : Link)
-      → askedBy J p c i (ls ++ (l ∷ [])) ≡ max (askedBy J p c i ls) (when (eqb (l .before) p && eqb (l .after) i) (c + delay J l) 0)
+      → askedBy J p c i (ls ++ (l ∷ [])) ≡ max (askedBy J p c i ls)
+      (when (eqb (l .before) p && eqb (l .after) i) (c + delay J l) 0)
   unfolding askedBy
   asked-more [] l = omega arith
   asked-more (x ∷ ls) l =
@@ -102,7 +104,8 @@ module _ (J : Job) (sound : Sound J) (n m : ℕ) (l : Ties) (count : pieceCount 
     one : ℕ → Waiting → Waiting
     one k s = when (eqb (getD (l .befores) k 0) p) (passed l c k s) s
 
-    one-sized : (k : ℕ) (s : Waiting) → (length (one k s .waits) ≡ length (s .waits)) × (length (one k s .ready) ≡ length (s .ready))
+    one-sized : (k : ℕ) (s : Waiting)
+        → (length (one k s .waits) ≡ length (s .waits)) × (length (one k s .ready) ≡ length (s .ready))
     unfolding one when
     one-sized k s = by-test (eqb (getD (l .befores) k 0) p)
         (λ e. rw e (length-set (s .waits) _ _, length-set (s .ready) _ _))
@@ -127,7 +130,8 @@ module _ (J : Job) (sound : Sound J) (n m : ℕ) (l : Ties) (count : pieceCount 
     links-more k = ap (map link) (below-more k) ∙ map-append link (below k) (k ∷ [])
 
     pass-sized : (k : ℕ) (s : Waiting)
-        → (length (passFrom l p c k s .waits) ≡ length (s .waits)) × (length (passFrom l p c k s .ready) ≡ length (s .ready))
+        → (length (passFrom l p c k s .waits) ≡ length (s .waits)) ×
+        (length (passFrom l p c k s .ready) ≡ length (s .ready))
     unfolding passFrom one
     pass-sized zero s = (refl, refl)
     pass-sized (suc k) s =
@@ -140,7 +144,8 @@ module _ (J : Job) (sound : Sound J) (n m : ℕ) (l : Ties) (count : pieceCount 
     unfolding passFrom linksTo below one
     pass-waits zero i s b h = omega arith
     pass-waits (suc k) i s b h =
-        let ih : getD (passFrom l p c k (one k s) .waits) i 0 ≡ getD (one k s .waits) i 0 - linksTo p i (map link (below k)) =
+        let ih : getD (passFrom l p c k (one k s) .waits) i 0 ≡ getD (one k s .waits) i 0 - linksTo p i
+        (map link (below k)) =
         pass-waits k i (one k s) (omega arith) (rw (one-sized k s .0) h) in
         omega (arith, one-waits k i s h, to-more J p c i (map link (below k)) (link k), ap (linksTo p i) (links-more k))
 
@@ -149,9 +154,16 @@ module _ (J : Job) (sound : Sound J) (n m : ℕ) (l : Ties) (count : pieceCount 
     unfolding passFrom askedBy below one
     pass-ready zero i s b h = omega arith
     pass-ready (suc k) i s b h =
-        let ih : getD (passFrom l p c k (one k s) .ready) i 0 ≡ max (getD (one k s .ready) i 0) (askedBy J p c i (map link (below k))) =
+        let ih : getD (passFrom l p c k (one k s) .ready) i 0 ≡ max (getD (one k s .ready) i 0)
+        (askedBy J p c i (map link (below k))) =
         pass-ready k i (one k s) (omega arith) (rw (one-sized k s .1) h) in
-        omega (arith, one-ready k i s b h, asked-more J p c i (map link (below k)) (link k), ap (askedBy J p c i) (links-more k))
+        omega (
+          arith,
+          one-ready k i s b h,
+          asked-more J p c i (map link (below k)) (link k),
+          ap (askedBy J p c i)
+              (links-more k),
+        )
 
   -- The same pieces are finished, at the same moments.
   wait-alike : (P Q : ℕ → Progress) (s : Waiting) → ((i : ℕ) → i < n → done P i ≡ done Q i)
@@ -261,7 +273,8 @@ module _ (J : Job) (sound : Sound J) (n m : ℕ) (l : Ties) (count : pieceCount 
         → ((i : ℕ) → i < n → desk J i < 32) → (s : Waiting) → WaitHeld J n (at J t) s
         → WaitHeld J n (at J u) (handTo l m u left chosen 32 s)
     hand-step chosen c few-desks s h =
-        let early : (i : ℕ) → at J t i ≡ then-at 0 i = λ i. ap (λ x. at J x i) (sym (moment-early t u 0 (desk J i) (omega arith))) in
+        let early : (i : ℕ) → at J t i ≡ then-at 0 i = λ i. ap (λ x. at J x i)
+        (sym (moment-early t u 0 (desk J i) (omega arith))) in
         let late : (i : ℕ) → i < n → then-at 32 i ≡ at J u i =
         λ i b. ap (λ x. at J x i) (moment-late t u 32 (desk J i) (few-desks i b)) in
         wait-alike (then-at 32) (at J u) (handTo l m u left chosen 32 s)

@@ -51,7 +51,8 @@ module _ (desks : List ℕ) (l : Log) (t u d i : ℕ) (room : l .runs < 512) (pi
   old-until : (j : ℕ) → j < c → getD (after .until) j 0 ≡ getD (l .until) j 0
   old-until j h = getD-set-other (l .until) c j u 0 (λ (z : j ≡ c). omega arith)
 
-  new-run : runAt (after .piece) (after .from) (after .until) c ≡ record { piece = i; from = t; until = u; slots = u - t }
+  new-run : runAt (after .piece) (after .from) (after .until) c
+      ≡ record { piece = i; from = t; until = u; slots = u - t }
   new-run =
       rw (new-piece, getD-set-same (l .from) c t 0 (omega arith), getD-set-same (l .until) c u 0 (omega arith))
 
@@ -80,7 +81,8 @@ module _ (desks : List ℕ) (l : Log) (t u d i : ℕ) (room : l .runs < 512) (pi
 module _ (J : Job) (sound : Sound J) (n : ℕ) (desks : List ℕ) (t u k : ℕ) (e : t + k ≡ u) (p : 0 < k) (s : Stretch J t k)
     (count : pieceCount J ≡ n) (small : n ≤ 256) (desk-is : (i : ℕ) → i < n → desk J i ≡ getD desks i 0) where
   module _ (d i : ℕ) (b : d < 32) (q : worked J d t ≡ some i) (l : Log) (h : LogHeld J n desks (momentOf t u d) l)
-      (anew : (w : Placed desks l d) → goesOnAt (runAt (l .piece) (l .from) (l .until) (getD (l .last) d 0)) i t ≡ false) where
+      (anew : (w : Placed desks l d) → goesOnAt (runAt (l .piece) (l .from) (l .until) (getD (l .last) d 0)) i t
+      ≡ false) where
     abbrev now : Log
     now = begun t u d i l
 
@@ -94,7 +96,12 @@ module _ (J : Job) (sound : Sound J) (n : ℕ) (desks : List ℕ) (t u k : ℕ) 
     room =
         let early : momentOf t u d (desk J i) ≡ t =
         moment-early t u d (desk J i) (omega (arith, worked-chosen J d t i q .waits .on-desk)) in
-        omega (arith, h .few, scores-less J n (momentOf t u d) i inside (rw early (worked-chosen J d t i q .waits .unfinished)))
+        omega (
+          arith,
+          h .few,
+          scores-less J n (momentOf t u d) i inside
+              (rw early (worked-chosen J d t i q .waits .unfinished)),
+        )
 
     was : logged desks l d ≡ runsUntil J d t
     was = h .runs-are d b ∙ ap (runsUntil J d) (moment-early t u d d (omega arith))
@@ -107,7 +114,8 @@ module _ (J : Job) (sound : Sound J) (n : ℕ) (desks : List ℕ) (t u k : ℕ) 
 
     last-was : Placed desks l d → runsUntil J d t ≡ before ++ (run ∷ [])
     last-was w =
-        sym was ∙ last-logged desks (l .piece) (l .from) (l .until) d (l .runs) (getD (l .last) d 0) (w .below) (w .own) (w .latest)
+        sym was ∙ last-logged desks (l .piece) (l .from) (l .until) d (l .runs) (getD (l .last) d 0) (w .below) (w .own)
+        (w .latest)
 
     -- The plan's runs grow by a run of its own.
     grows : grown (runsUntil J d t) i t k ≡ runsUntil J d t ++ (freshRun i t k ∷ [])
@@ -154,7 +162,11 @@ module _ (J : Job) (sound : Sound J) (n : ℕ) (desks : List ℕ) (t u k : ℕ) 
         let same : getD (now .last) f 0 ≡ getD (l .last) f 0 = getD-set-other (l .last) d f (l .runs) 0 ne in
         inr (record {
           below = rw same (omega (arith, y .below));
-          own = rw (same, old-piece desks l t u d i room (h .piece-sized) (h .from-sized) (h .until-sized) own-desk _ (y .below)) (y .own);
+          own = rw (
+            same,
+            old-piece desks l t u d i room (h .piece-sized) (h .from-sized) (h .until-sized) own-desk _
+                (y .below),
+          ) (y .own);
           latest = λ j a c. by-test (ltb j (l .runs))
               (λ z. let o = ltb-true j (l .runs) z in
               old-own desks l t u d i room (h .piece-sized) (h .from-sized) (h .until-sized) own-desk f j o
@@ -166,7 +178,8 @@ module _ (J : Job) (sound : Sound J) (n : ℕ) (desks : List ℕ) (t u k : ℕ) 
     own-last : LastRun desks now d
     unfolding LastRun
     own-last =
-        let same : getD (now .last) d 0 ≡ l .runs = getD-set-same (l .last) d (l .runs) 0 (omega (arith, h .last-sized)) in
+        let same : getD (now .last) d 0 ≡ l .runs = getD-set-same (l .last) d (l .runs) 0
+        (omega (arith, h .last-sized)) in
         inr (record {
           below = rw same (omega arith);
           own = rw same (new-own desks l t u d i room (h .piece-sized) (h .from-sized) (h .until-sized) own-desk);
@@ -187,7 +200,8 @@ module _ (J : Job) (sound : Sound J) (n : ℕ) (desks : List ℕ) (t u k : ℕ) 
           (λ z. others-last f (h .lasts f c) (eqb-false f d z));
       inside = λ j c. by-test (ltb j (l .runs))
           (λ z. let o = ltb-true j (l .runs) z in
-          rw (old-piece desks l t u d i room (h .piece-sized) (h .from-sized) (h .until-sized) own-desk j o) (h .inside j o))
+          rw (old-piece desks l t u d i room (h .piece-sized) (h .from-sized) (h .until-sized) own-desk j o)
+          (h .inside j o))
           (λ z. let m : j ≡ l .runs = omega (arith, ltb-false j (l .runs) z) in
           rw (m, new-piece desks l t u d i room (h .piece-sized) (h .from-sized) (h .until-sized) own-desk) inside);
       forward = λ j c. by-test (ltb j (l .runs))

@@ -31,7 +31,8 @@ use Rattle.steps.proofs.Moved.{momentOf, moment-early, moment-late, mom
 use Rattle.steps.proofs.Scores.{scores, scores-most, scores-less, scores-grow, scores-rise}
 
 -- The test that the code makes of the desk's last run is whether that run goes on.
-pub stays-goes : (piece from until : List ℕ) (k i t : ℕ) → k < 512 → stays piece until k i t ≡ goesOnAt (runAt piece from until k) i t
+pub stays-goes : (piece from until : List ℕ) (k i t : ℕ) → k < 512
+    → stays piece until k i t ≡ goesOnAt (runAt piece from until k) i t
 unfolding stays goesOnAt
 stays-goes piece from until k i t h = rw (lt-ltb k 512 h)
 
@@ -40,7 +41,8 @@ module _ (desks : List ℕ) (l : Log) (t u c : ℕ) where
   abbrev after : Log
   after = lengthened t u c l
 
-  elsewhere : (j : ℕ) → (j ≡ c → ⊥) → runAt (l .piece) (l .from) (after .until) j ≡ runAt (l .piece) (l .from) (l .until) j
+  elsewhere : (j : ℕ) → (j ≡ c → ⊥)
+      → runAt (l .piece) (l .from) (after .until) j ≡ runAt (l .piece) (l .from) (l .until) j
   elsewhere j ne = rw (getD-set-other (l .until) c j u 0 ne)
 
   -- Other desks, and what stands before it of its own.
@@ -49,7 +51,8 @@ module _ (desks : List ℕ) (l : Log) (t u c : ℕ) where
       logged-same desks (l .piece) (l .piece) (l .from) (l .from) (l .until) (after .until) f (l .runs) (λ j b. refl)
       (λ j b w. elsewhere j (λ z. ne (sym (eqb-true _ f (rw z at w)) ∙ eqb-true _ d o)))
 
-  before-logged : (d : ℕ) → loggedRuns desks (l .piece) (l .from) (after .until) c d ≡ loggedRuns desks (l .piece) (l .from) (l .until) c d
+  before-logged : (d : ℕ)
+      → loggedRuns desks (l .piece) (l .from) (after .until) c d ≡ loggedRuns desks (l .piece) (l .from) (l .until) c d
   before-logged d =
       logged-same desks (l .piece) (l .piece) (l .from) (l .from) (l .until) (after .until) d c (λ j b. refl)
       (λ j b w. elsewhere j (λ z. omega arith))
@@ -57,7 +60,8 @@ module _ (desks : List ℕ) (l : Log) (t u c : ℕ) where
 module _ (J : Job) (sound : Sound J) (n : ℕ) (desks : List ℕ) (t u k : ℕ) (e : t + k ≡ u) (p : 0 < k) (s : Stretch J t k)
     (count : pieceCount J ≡ n) (small : n ≤ 256) (desk-is : (i : ℕ) → i < n → desk J i ≡ getD desks i 0) where
   module _ (d i : ℕ) (b : d < 32) (q : worked J d t ≡ some i) (l : Log) (h : LogHeld J n desks (momentOf t u d) l)
-      (w : Placed desks l d) (on : goesOnAt (runAt (l .piece) (l .from) (l .until) (getD (l .last) d 0)) i t ≡ true) where
+      (w : Placed desks l d) (on : goesOnAt (runAt (l .piece) (l .from) (l .until) (getD (l .last) d 0)) i t
+      ≡ true) where
     abbrev place : ℕ
     place = getD (l .last) d 0
 
@@ -78,7 +82,8 @@ module _ (J : Job) (sound : Sound J) (n : ℕ) (desks : List ℕ) (t u k : ℕ) 
     run-longer =
         let f : getD (l .from) place 0 ≤ getD (l .until) place 0 = h .forward place (w .below) in
         let y : getD (l .until) place 0 + k ≡ u = omega (arith, ended) in
-        let z : getD (l .until) place 0 - getD (l .from) place 0 + k ≡ u - getD (l .from) place 0 = omega (arith, ended) in
+        let z : getD (l .until) place 0 - getD (l .from) place 0 + k ≡ u - getD (l .from) place 0 = omega
+        (arith, ended) in
         rw (getD-set-same (l .until) place u 0 room, y, z)
 
     before : List Run

@@ -70,7 +70,8 @@ module _ (J : Job) (sound : Sound J) (n : ℕ) (desks : List ℕ) (t u k : ℕ) 
       rw (z, y) at w
 
   -- A desk that rests leaves the log as it is.
-  pub resting-held : (d : ℕ) → worked J d t ≡ none → (l : Log) → LogHeld J n desks (then-at d) l → LogHeld J n desks (then-at (suc d)) l
+  pub resting-held : (d : ℕ) → worked J d t ≡ none → (l : Log) → LogHeld J n desks (then-at d) l
+      → LogHeld J n desks (then-at (suc d)) l
   resting-held d q l h = record {
     last-sized = h .last-sized;
     piece-sized = h .piece-sized;

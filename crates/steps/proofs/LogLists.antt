@@ -50,7 +50,8 @@ module _ (desks piece from until : List ℕ) (d : ℕ) where
   unfolding loggedRuns keep
   other-more c e =
       rw (below-more c, keep-append own (below c) (c ∷ []))
-      (map-append run (keep own (below c)) (keep own (c ∷ [])) ∙ rw (e, when) (append-nil (map run (keep own (below c)))))
+      (map-append run (keep own (below c)) (keep own (c ∷ [])) ∙ rw (e, when)
+      (append-nil (map run (keep own (below c)))))
 
   -- The desk's last run stands at place k.
   pub last-logged : (c k : ℕ) → k < c → own k ≡ true → ((j : ℕ) → k < j → j < c → own j ≡ false)

@@ -51,7 +51,8 @@ module _ (J : Job) (sound : Sound J) (n : ℕ) (desks : List ℕ) (t u k : ℕ) 
         goes-on-held J sound n desks t u k e p s count small desk-is d i b q l h w
         (sym (stays-goes (l .piece) (l .from) (l .until) (getD (l .last) d 0) i t (in-log w)) ∙ y)
 
-    anew : test ≡ false → (w : Placed desks l d) → goesOnAt (runAt (l .piece) (l .from) (l .until) (getD (l .last) d 0)) i t ≡ false
+    anew : test ≡ false → (w : Placed desks l d)
+        → goesOnAt (runAt (l .piece) (l .from) (l .until) (getD (l .last) d 0)) i t ≡ false
     anew y w = sym (stays-goes (l .piece) (l .from) (l .until) (getD (l .last) d 0) i t (in-log w)) ∙ y
 
     working : Then (suc d) (noteOn t u d i l)
@@ -60,7 +61,13 @@ module _ (J : Job) (sound : Sound J) (n : ℕ) (desks : List ℕ) (t u k : ℕ) 
         let few : i < 256 = omega (arith, rw count at (worked-chosen J d t i q .waits .inside)) in
         by-test test
         (λ y. rw (lt-ltb i 256 few, y, when) (goes y (h .lasts d b)))
-        (λ y. rw (lt-ltb i 256 few, y, lt-ltb (l .runs) 512 (room J sound n desks t u k e p s count small desk-is d i b q l h (anew y)), when)
+        (λ y. rw (
+          lt-ltb i 256 few,
+          y,
+          lt-ltb (l .runs) 512
+              (room J sound n desks t u k e p s count small desk-is d i b q l h (anew y)),
+          when,
+        )
         (begins-held J sound n desks t u k e p s count small desk-is d i b q l h (anew y)))
 
   -- Desk d moved on, by the code of its choice.
@@ -102,6 +109,7 @@ pub note-step : (J : Job) (sound : Sound J) (n : ℕ) (desks : List ℕ) (t u k 
     → (chosen : List ℕ) → ((d : ℕ) → d < 32 → getD chosen d 0 ≡ codeOf (worked J d t))
     → (l : Log) → LogHeld J n desks (λ d. t) l → LogHeld J n desks (λ d. u) (noteTo t u chosen 32 l)
 note-step J sound n desks t u k e p s count small desk-is few-desks chosen c l h =
-    log-alike J n desks (momentOf t u 32) (λ d. u) (noteTo t u chosen 32 l) (λ d b. sym (moment-late t u 32 d b)) few-desks
+    log-alike J n desks (momentOf t u 32) (λ d. u) (noteTo t u chosen 32 l)
+    (λ d b. sym (moment-late t u 32 d b)) few-desks
     (note-desks J sound n desks t u k e p s count small desk-is chosen c 32 (omega arith) l
     (log-alike J n desks (λ d. t) (momentOf t u 0) l (λ d b. moment-early t u 0 d (omega arith)) few-desks h))

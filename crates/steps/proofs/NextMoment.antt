@@ -61,7 +61,12 @@ module _ (v : View) where
   unfolding readyNext momentWith
   ready-counts zero m i h e = absurd (omega arith)
   ready-counts (suc k) m i h e = by-test (ltb i k)
-      (λ q. omega (arith, ready-counts k m i (ltb-true i k q) e, lesser-most (later k) (readyNext v k m) (getD (v .ready) k 0)))
+      (λ q. omega (
+        arith,
+        ready-counts k m i (ltb-true i k q) e,
+        lesser-most (later k) (readyNext v k m)
+            (getD (v .ready) k 0),
+      ))
       (λ q. let z : i ≡ k = omega (arith, ltb-false i k q) in
       rw z (lesser-counts (later k) (readyNext v k m) (getD (v .ready) k 0) (rw z at e)))
 
@@ -121,9 +126,11 @@ module _ (t : ℕ) (left D : List ℕ) where
   end-from zero m = inl refl
   end-from (suc k) m = go (lesser-from (someone k) (endNext t left D k m) (t + getD left (getD D k 0) 0)) (end-from k m)
     where
-      go : (lesser (someone k) (endNext t left D k m) (t + getD left (getD D k 0) 0) ≡ endNext t left D k m) ⊎ (someone k ≡ true)
+      go : (lesser (someone k) (endNext t left D k m) (t + getD left (getD D k 0) 0) ≡ endNext t left D k m) ⊎
+          (someone k ≡ true)
           → (endNext t left D k m ≡ m) ⊎ ((d : ℕ) × (d < k) × (someone d ≡ true))
-          → (lesser (someone k) (endNext t left D k m) (t + getD left (getD D k 0) 0) ≡ m) ⊎ ((d : ℕ) × (d < suc k) × (someone d ≡ true))
+          → (lesser (someone k) (endNext t left D k m) (t + getD left (getD D k 0) 0) ≡ m) ⊎
+          ((d : ℕ) × (d < suc k) × (someone d ≡ true))
       go (inr e) ih = inr (k, omega arith, e)
       go (inl e) (inl q) = inl (e ∙ q)
       go (inl e) (inr w) = inr (w .0, omega (arith, w .1), w .2)
@@ -138,7 +145,8 @@ module _ (J : Job) (n : ℕ) (v : View) (s : Shown J n v) where
   unfolding codeOf
   working-code d i h q = choice-is J n v s d h ∙ ap codeOf q
 
-  chosen-worked : (d : ℕ) → d < 32 → getD (choiceOf v n) d 0 < 256 → worked J d (v .moment) ≡ some (getD (choiceOf v n) d 0)
+  chosen-worked : (d : ℕ) → d < 32 → getD (choiceOf v n) d 0 < 256
+      → worked J d (v .moment) ≡ some (getD (choiceOf v n) d 0)
   chosen-worked d h l = by-choice (worked J d (v .moment))
       (λ q. absurd (omega (arith, resting-code d h q)))
       (λ i q. q ∙ ap some (sym (working-code d i h q)))
@@ -182,7 +190,8 @@ module _ (J : Job) (n : ℕ) (v : View) (s : Shown J n v) where
   unfolding nextOf
   next-ready i h l w b =
       let r : getD (v .ready) i 0 ≡ readyOf J (at J (v .moment)) i = s .ready-is i h in
-      let e : later v i ≡ true = and-intro _ _ (facts-due J n v s i h l w) (lt-ltb (v .moment) (getD (v .ready) i 0) (omega arith)) in
+      let e : later v i ≡ true = and-intro _ _ (facts-due J n v s i h l w)
+      (lt-ltb (v .moment) (getD (v .ready) i 0) (omega arith)) in
       omega (arith, end-most (v .moment) (v .left) (choiceOf v n) 32 (readyNext v n never), ready-counts v n never i h e)
 
   -- So nothing is decided until then.
@@ -226,7 +235,8 @@ module _ (J : Job) (n : ℕ) (v : View) (s : Shown J n v) where
             let u : 0 < at J (v .moment + k) i .left =
             unfinished-through J sound (v .moment) (next - v .moment) (quiet-until a) k (omega arith) i b l in
             let f : at J (v .moment + k) i .left ≡ at J (horizon J) i .left =
-            ap (λ p. p .left) (rw z at (finished-for-good J (v .moment + k - horizon J) (horizon J) i b (all-finished J sound free i b))) in
+            ap (λ p. p .left) (rw z at (finished-for-good J (v .moment + k - horizon J) (horizon J) i b
+            (all-finished J sound free i b))) in
             omega (arith, all-finished J sound free i b)
 
     -- No further moment: every piece is finished. A further moment: it lies within the horizon.

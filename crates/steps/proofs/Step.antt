@@ -84,7 +84,8 @@ module _ (J : Job) (sound : Sound J) (free : ringPiece J ≡ none) (T : Tables) 
     works = workTo (T .durations) t next chosen 32 w
 
     pub step : next < never
-        → Held J (T .pieces) (T .desks) next works (handTo linked (T .links) next (works .left) chosen 32 s) (noteTo t next chosen 32 l)
+        → Held J (T .pieces) (T .desks) next works (handTo linked (T .links) next (works .left) chosen 32 s)
+        (noteTo t next chosen 32 l)
     step c =
         let e : t + (next - t) ≡ next = omega (arith, ahead) in
         let p : 0 < next - t = omega (arith, ahead) in

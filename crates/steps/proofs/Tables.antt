@@ -23,7 +23,8 @@ module _ (T : Tables) (dues : List ℕ) where
   unfolding jobIn piecesIn
   piece-is i h = getD-below (pieceIn (T .desks) (T .durations) (T .releases) dues) noPiece (T .pieces) i h
 
-  pub listed : ((i : ℕ) → i < T .pieces → getD (T .latests) i (pos 0) ≡ latest (jobOf T dues) i) → Listed (jobOf T dues) T
+  pub listed : ((i : ℕ) → i < T .pieces → getD (T .latests) i (pos 0) ≡ latest (jobOf T dues) i)
+      → Listed (jobOf T dues) T
   unfolding jobIn piecesIn linksIn pieceIn
   listed h = record {
     count = length-map (below (T .pieces)) (pieceIn (T .desks) (T .durations) (T .releases) dues)

@@ -44,7 +44,8 @@ module _ (v : View) where
   unfoldable pub consideredBy : ℕ → List ℕ → List ℕ
   unfolding when isDue offered
   consideredBy i chosen =
-      when (isDue i && leb (getD (v .ready) i 0) (v .moment)) (offered (v .latests) i (getD (v .desks) i 0) chosen) chosen
+      when (isDue i && leb (getD (v .ready) i 0) (v .moment))
+      (offered (v .latests) i (getD (v .desks) i 0) chosen) chosen
 
   unfoldable pub momentWith : ℕ → ℕ → ℕ
   unfolding when isDue
@@ -83,8 +84,8 @@ choiceOf v n = chosenFrom v n (replicate 32 256)
 unfoldable pub nextOf : View → ℕ → ℕ
 nextOf v n = endNext (v .moment) (v .left) (choiceOf v n) 32 (readyNext v n never)
 
--- What becomes of the choices and of the next moment: after piece i was looked at, after the first n pieces were, and in the
--- whole decision.
+-- What becomes of the choices and of the next moment: after piece i was looked at, after the first n pieces were, and
+-- in the whole decision.
 pub record Considered (v : View) (i : ℕ) (chosen : List ℕ) (next : ℕ) (chosen′ : List ℕ) (next′ : ℕ) : Type 0 where
   pub chosen-is : chosen′ ≡ consideredBy v i chosen
   pub next-is : next′ ≡ momentWith v i next

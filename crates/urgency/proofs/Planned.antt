@@ -55,7 +55,8 @@ module _ (T : Tables) (dues : List ℕ) where
 
     fit : (k : ℕ) → k < T .links → LinkFits (pieceCount job) (link k)
     fit k h =
-        link-fit job (g .sound) (link k) (rw (lists .links-are) (mem-map link (below (T .links)) k (below-mem (T .links) k h)))
+        link-fit job (g .sound) (link k) (rw (lists .links-are)
+        (mem-map link (below (T .links)) k (below-mem (T .links) k h)))
 
     pub named : Named (T .links) (T .befores) (T .afters)
     unfolding linkIn
@@ -73,7 +74,8 @@ module _ (T : Tables) (dues : List ℕ) where
         → Begun (T .pieces) (T .durations) (T .releases) left ready starts finishes → length waits ≡ 256
         → ((i : ℕ) → i < 256 → getD waits i 0 ≡ intoOf (T .afters) i (T .links)) → length last ≡ 32
         → ((d : ℕ) → d < 32 → getD last d 0 ≡ 512) → length pieces ≡ 512 → length froms ≡ 512 → length untils ≡ 512
-        → Held job (T .pieces) (T .desks) 0 (work left starts finishes) (waiting waits ready) (log 0 last pieces froms untils)
+        → Held job (T .pieces) (T .desks) 0 (work left starts finishes) (waiting waits ready)
+        (log 0 last pieces froms untils)
     before-first left ready starts finishes waits last pieces froms untils b ws w ls l ps fs us = record {
       in-time = omega arith;
       working = begun-work job (g .sound) (T .pieces) (lists .count) (T .durations) (lists .duration-is)

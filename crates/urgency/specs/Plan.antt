@@ -28,8 +28,8 @@ pub record Sized (starts finishes pieces froms untils : List ℕ) : Type 0 where
   pub froms-sized : length froms ≡ 512
   pub untils-sized : length untils ≡ 512
 
--- The plan of the job: start and finish of every piece, and the log, whose first `count` places have the runs of every desk
--- in the order in which they begin. A run's desk is that of its piece.
+-- The plan of the job: start and finish of every piece, and the log, whose first `count` places have the runs of
+-- every desk in the order in which they begin. A run's desk is that of its piece.
 pub record Planned (J : Job) (n : ℕ) (desks starts finishes pieces froms untils : List ℕ) (count : ℕ) : Type 0 where
   pub start-is : (i : ℕ) → i < n → getD starts i 0 ≡ start J i
   pub finish-is : (i : ℕ) → i < n → getD finishes i 0 ≡ finish J i

@@ -1,5 +1,6 @@
-// The plan by urgency, by decision moments: from one moment at which some piece becomes ready or is finished to the next,
-// never slot by slot. The pieces and links come in lent tables, and so do start, finish and the log of the runs.
+// The plan by urgency, by decision moments: from one moment at which some piece becomes ready or is finished to the
+// next, never slot by slot. The pieces and links come in lent tables, and so do start, finish and the log of the
+// runs.
 use moving::handover;
 use moving::log;
 use moving::work;
@@ -20,7 +21,8 @@ fn begin(
     finish: &mut [u32; 256],
 )
     requires { ⌜ n ≤ 256 ⌝ }
-    requires { ⌜ (length (now left) ≡ 256) × (length (now ready) ≡ 256) × (length (now start) ≡ 256) × (length (now finish) ≡ 256) ⌝ }
+    requires { ⌜ (length (now left) ≡ 256) × (length (now ready) ≡ 256) × (length (now start) ≡ 256)
+        × (length (now finish) ≡ 256) ⌝ }
     ensures { λ _. ⌜ Begun n (now (durations .entry)) (now (releases .entry)) (now (left .exit)) (now (ready .exit))
         (now (start .exit)) (now (finish .exit)) ⌝ }
 {
@@ -34,8 +36,9 @@ fn begin(
     }
 }
 
-// The plan of n pieces and m links. It fills start and finish of every piece and the log of the runs, in the order in which
-// they begin, and returns the count of the runs.
+// The plan of n pieces and m links. It fills start and finish of every piece and the log of the runs, in the order in
+// which they begin, and returns the count of the runs. The latest moments say all that urgency asks of the dues; the job
+// of the contract has them, so they are lent too.
 pub fn plan(
     n: usize,
     m: usize,
@@ -53,11 +56,11 @@ pub fn plan(
     from: &mut [u32; 512],
     until: &mut [u32; 512],
 ) -> usize
-    requires { ⌜ Given (jobIn n m (now desks) (now durations) (now releases) (now dues) (now befores) (now afters) (now handovers))
-        n (now latests) ⌝ }
+    requires { ⌜ Given (jobIn n m (now desks) (now durations) (now releases) (now dues) (now befores) (now afters)
+        (now handovers)) n (now latests) ⌝ }
     requires { ⌜ Sized (now start) (now finish) (now piece) (now from) (now until) ⌝ }
-    ensures { λ r. ⌜ Planned (jobIn n m (now (desks .entry)) (now (durations .entry)) (now (releases .entry)) (now (dues .entry))
-        (now (befores .entry)) (now (afters .entry)) (now (handovers .entry))) n (now (desks .entry))
+    ensures { λ r. ⌜ Planned (jobIn n m (now (desks .entry)) (now (durations .entry)) (now (releases .entry))
+        (now (dues .entry)) (now (befores .entry)) (now (afters .entry)) (now (handovers .entry))) n (now (desks .entry))
         (now (start .exit)) (now (finish .exit)) (now (piece .exit)) (now (from .exit)) (now (until .exit)) r ⌝ }
 {
     let mut left = [0u32; 256];
@@ -73,7 +76,7 @@ pub fn plan(
     let mut runs = 0;
     let mut t = 0;
     let mut next = deciding::decide(n, t, desks, latests, &left, &waits, &ready, &mut chosen);
-    while next < 4294967295 {
+    while next < deciding::NEVER {
         work::work_all(t, next, durations, &chosen, &mut left, start, finish);
         runs = log::note_all(t, next, runs, &chosen, &mut last, piece, from, until);
         handover::hand_all(

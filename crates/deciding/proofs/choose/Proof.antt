@@ -1,5 +1,5 @@
--- `choose` looks at the pieces one after the other. The loop's invariant: the choices and the next moment are what looking
--- at the first i pieces makes of them.
+-- `choose` looks at the pieces one after the other. The loop's invariant: the choices and the next moment are what
+-- looking at the first i pieces makes of them.
 use Prim.Native.Nat.{_≤_, _-_}
 use mathlib.Core.Path.{_≡_}
 use native.Mathlib.Omega.{arith}
@@ -33,7 +33,8 @@ loop-again c =
     let l = c .before .before .before .loop in
     let v = view (a .t) (a .desks .now) (a .latests .now) (a .left .now) (a .waits .now) (a .ready .now) in (
       omega arith,
-      look-more v (l .i) (a .chosen .now) (l .chosen) _ (l .next) (c .consider .result) (l .inv .1) (c .consider .ensures),
+      look-more v (l .i) (a .chosen .now) (l .chosen) _ (l .next) (c .consider .result) (l .inv .1)
+          (c .consider .ensures),
     )
 
 returns : tie.Need-returns Inv-loop μ-loop

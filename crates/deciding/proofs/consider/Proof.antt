@@ -1,5 +1,5 @@
--- `consider` looks at one piece. Each return is one of the ways of `Considered`: the piece is finished, waits for a piece, is
--- ready later, or is put up for its desk.
+-- `consider` looks at one piece. Each return is one of the ways of `Considered`: the piece is finished, waits for a
+-- piece, is ready later, or is put up for its desk.
 use mathlib.Core.Path.{_∙_}
 use native.Mathlib.Omega.{arith}
 use borrow.Author.Needs.{needs}

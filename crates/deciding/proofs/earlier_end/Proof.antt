@@ -1,5 +1,5 @@
--- `earlier_end` counts the end of one chosen piece. Each return is one of the ways: there is no piece, its end comes first,
--- or it does not.
+-- `earlier_end` counts the end of one chosen piece. Each return is one of the ways: there is no piece, its end comes
+-- first, or it does not.
 use native.Mathlib.Omega.{arith}
 use Rattle.deciding.proofs.Considered.{nobody-ends, ends-first, ends-later}
 use borrow.Author.Needs.{needs}
@@ -30,13 +30,15 @@ add-result c = omega arith
 returns-2 : tie.Need-returns-2
 returns-2 c =
     let a = c .before .before .before .before .before .args in
-    ends-first (a .t) (a .left .now) (a .i) (a .next) (c .before .before .less .result) (c .before .before .before .before .if1 .left) (c .before .before .less .ensures)
+    ends-first (a .t) (a .left .now) (a .i) (a .next) (c .before .before .less .result)
+    (c .before .before .before .before .if1 .left) (c .before .before .less .ensures)
     (c .before .if2 .taken)
 
 returns-3 : tie.Need-returns-3
 returns-3 c =
     let a = c .before .before .before .before .args in
-    ends-later (a .t) (a .left .now) (a .i) (a .next) (c .before .less .result) (c .before .before .before .if1 .left) (c .before .less .ensures)
+    ends-later (a .t) (a .left .now) (a .i) (a .next) (c .before .less .result) (c .before .before .before .if1 .left)
+    (c .before .less .ensures)
     (c .if2 .left)
 
 pub earlier-end-spec : {M : Type 1} → statement M

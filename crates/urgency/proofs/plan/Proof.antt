@@ -108,7 +108,8 @@ loop-holds c =
     let s = entry k in
     let counted = k .before .before .before in
     record {
-      held = before-first (lent s) (s .args .dues .now) (s .pre .0) _ _ _ _ _ _ _ _ _ (counted .before .before .begin .ensures)
+      held = before-first (lent s) (s .args .dues .now) (s .pre .0) _ _ _ _ _ _ _ _ _
+          (counted .before .before .begin .ensures)
           (counted .count .ensures .0) (counted .count .ensures .1) refl (λ d h. getD-replicate 32 d 512 0 h)
           (s .pre .1 .pieces-sized) (s .pre .1 .froms-sized) (s .pre .1 .untils-sized);
       decided = c .decide .ensures;
@@ -175,8 +176,10 @@ loop-less c =
     let l = b .before .loop in
     omega (
       arith,
-      next-ahead (lent s) (s .args .dues .now) (s .pre .0) (l .t) (l .next) (works b) (waits b) (logs b) (l .chosen) (l .inv),
-      next-within (lent s) (s .args .dues .now) (s .pre .0) (l .t) (l .next) (works b) (waits b) (logs b) (l .chosen) (l .inv)
+      next-ahead (lent s) (s .args .dues .now) (s .pre .0) (l .t) (l .next) (works b) (waits b) (logs b) (l .chosen)
+          (l .inv),
+      next-within (lent s) (s .args .dues .now) (s .pre .0) (l .t) (l .next) (works b) (waits b) (logs b) (l .chosen)
+          (l .inv)
           (b .loop-test .taken),
     )
 
@@ -189,7 +192,8 @@ loop-again c =
     let s = first b in
     let l = b .before .loop in
     record {
-      held = goes (lent s) (s .args .dues .now) (s .pre .0) (l .t) (l .next) (works b) (waits b) (logs b) (l .chosen) (l .inv)
+      held = goes (lent s) (s .args .dues .now) (s .pre .0) (l .t) (l .next) (works b) (waits b) (logs b) (l .chosen)
+          (l .inv)
           (b .loop-test .taken) _ _ _ (w .work-all .ensures) (n .note-all .ensures) (h .hand-all .ensures);
       decided = c .decide2 .ensures;
     }

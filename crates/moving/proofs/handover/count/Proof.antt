@@ -41,7 +41,12 @@ add-waits : tie.Need-add-waits Inv-loop μ-loop
 add-waits c =
     let a = c .before .before .before .before .args in
     let l = c .before .before .before .loop in
-    omega (arith, l .inv .2 _ (after-in (c .before .before)), into-most (a .afters .now) (getD (a .afters .now) (l .k) 0) (l .k))
+    omega (
+      arith,
+      l .inv .2 _ (after-in (c .before .before)),
+      into-most (a .afters .now)
+          (getD (a .afters .now) (l .k) 0) (l .k),
+    )
 
 mul-waits-2 : tie.Need-mul-waits-2 Inv-loop μ-loop
 mul-waits-2 c = omega (arith, after-in (c .before .before))

@@ -1,5 +1,5 @@
--- `hand_all` goes over the desks. The loop's invariant: the tables are what the pieces chosen by the first d desks make of
--- them.
+-- `hand_all` goes over the desks. The loop's invariant: the tables are what the pieces chosen by the first d desks
+-- make of them.
 use Prim.Native.Nat.{_≤_, _-_}
 use mathlib.Core.Path.{_≡_, refl, sym, ap, _∙_}
 use native.Mathlib.Omega.{arith}

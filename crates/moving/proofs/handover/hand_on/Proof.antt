@@ -42,7 +42,8 @@ returns-3 c =
     let s = test .before .before .before in
     let a = s .args in
     c .pass-on .ensures
-    ∙ finished-hands (tied s) (a .m) (a .c) (a .left .now) (a .i) (was s) (test .before .before .if1 .left) (test .if2 .left)
+    ∙ finished-hands (tied s) (a .m) (a .c) (a .left .now) (a .i) (was s) (test .before .before .if1 .left)
+    (test .if2 .left)
 
 pub hand-on-spec : {M : Type 1} → statement M
 hand-on-spec =

@@ -1,5 +1,5 @@
--- `pass_on` walks the chain of the piece's links from the last one back. The loop's invariant: the chain stands at the last
--- of the first n links that is the piece's, and what these n pass on from here is all that is passed on.
+-- `pass_on` walks the chain of the piece's links from the last one back. The loop's invariant: the chain stands at
+-- the last of the first n links that is the piece's, and what these n pass on from here is all that is passed on.
 use Prim.Native.Nat.{ℕ, suc, _-_, _≤_, _<_}
 use mathlib.Core.Path.{_≡_, refl, sym, ap, _∙_}
 use native.Mathlib.Omega.{arith}
@@ -48,7 +48,8 @@ found c =
     let s = entry c in
     let l = c .before .loop in
     let z : l .next ≡ suc (l .next - 1) = omega arith in
-    last-found (tied s) (s .args .p) (s .args .c) (waiting (l .waits) (l .ready)) (l .inv .0) (l .next - 1) (sym (l .inv .2) ∙ z)
+    last-found (tied s) (s .args .p) (s .args .c) (waiting (l .waits) (l .ready)) (l .inv .0) (l .next - 1)
+    (sym (l .inv .2) ∙ z)
 
 sub-k : tie.Need-sub-k Inv-loop μ-loop
 sub-k c = omega arith
@@ -79,7 +80,8 @@ turn c = c .before .before .before .before .before
 
 -- The next place in the chain.
 next-is : (c : tie.After-place2 Inv-loop μ-loop) →
-    let s = entry (turn c) in c .place2 .result ≡ lastWith (s .args .befores .now) (s .args .p) (turn c .before .loop .next - 1)
+    let s = entry (turn c) in c .place2 .result ≡ lastWith (s .args .befores .now) (s .args .p)
+    (turn c .before .loop .next - 1)
 next-is c =
     let t = turn c in
     let k = t .before .loop .next - 1 in
@@ -109,7 +111,8 @@ returns c =
     let s = c .before .before .before .before in
     let l = c .before .loop in
     let z : l .next ≡ 0 = omega arith in
-    sym (last-nothing (tied s) (s .args .p) (s .args .c) (waiting (l .waits) (l .ready)) (l .inv .0) (sym (l .inv .2) ∙ z))
+    sym (last-nothing (tied s) (s .args .p) (s .args .c) (waiting (l .waits) (l .ready)) (l .inv .0)
+    (sym (l .inv .2) ∙ z))
     ∙ l .inv .3
 
 pub pass-on-spec : {M : Type 1} → statement M

@@ -9,7 +9,8 @@ use Rattle.moving.proofs.work.work_on.Tie as tie
 returns : tie.Need-returns
 returns c =
     let a = c .before .args in
-    nobody-works (a .durations .now) (a .t) (a .next) (a .i) (work (a .left .now) (a .start .now) (a .finish .now)) (c .if1 .taken)
+    nobody-works (a .durations .now) (a .t) (a .next) (a .i) (work (a .left .now) (a .start .now) (a .finish .now))
+    (c .if1 .taken)
 
 mul-start-of : tie.Need-mul-start-of
 mul-start-of c = omega arith
