@@ -1,15 +1,15 @@
 -- One desk's slots noted in the log, by the ways the code takes, and one desk more.
 use Prim.Native.Nat.{ℕ, _+_, _≤_, _<_}
-use mathlib.Core.Bool.{Bool, true, false, _&&_}
+use mathlib.Core.Bool.{true, false, _&&_}
 use mathlib.Core.List.{List}
-use mathlib.Core.Path.{_≡_, refl, sym, ap, _∙_}
+use mathlib.Core.Path.{_≡_, sym, _∙_}
 use native.Mathlib.Numerals.{add-one}
 use native.Mathlib.Omega.{arith}
 use borrow.Author.Tests.{lt-ltb, le-ltb, eq-eqb, ne-eqb, ltb-true}
 use lib.Dec.{ltb, eqb}
-use lib.ListN.{getD, set}
+use lib.ListN.{getD}
 use Rattle.laws.proofs.Words.{when-true, when-false, and-true}
-use Rattle.steps.specs.Log.{Log, log, stays, lengthened, begun, noteOn, noteTo}
+use Rattle.steps.specs.Log.{Log, stays, lengthened, begun, noteOn, noteTo}
 
 -- Whether the run at place k goes on.
 module _ (piece until : List ℕ) (k i t : ℕ) where

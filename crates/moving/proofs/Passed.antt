@@ -1,8 +1,8 @@
 -- A finished piece's links, followed along their chain: from one link of the piece to the next nothing else changes.
 use Prim.Native.Nat.{ℕ, zero, suc, _+_, _-_, _≤_, _<_, max}
-use mathlib.Core.Bool.{Bool, true, false, _&&_}
+use mathlib.Core.Bool.{_&&_}
 use mathlib.Core.List.{List}
-use mathlib.Core.Path.{_≡_, refl, sym, ap, _∙_}
+use mathlib.Core.Path.{_≡_, refl, sym, _∙_}
 use native.Mathlib.Numerals.{add-one}
 use native.Mathlib.Omega.{arith}
 use borrow.Author.Tests.{eqb-true, eq-eqb, ne-eqb, lt-ltb, le-ltb}
@@ -11,7 +11,7 @@ use lib.ListN.{getD, set}
 use Rattle.rules.specs.Words.{when}
 use Rattle.laws.proofs.Words.{by-test, when-true, when-false}
 use Rattle.links.specs.Chains.{lastWith}
-use Rattle.steps.specs.Handover.{Ties, ties, Waiting, waiting, delayOf, passed, passFrom, handOn, handTo}
+use Rattle.steps.specs.Handover.{Ties, Waiting, waiting, delayOf, passed, passFrom, handOn, handTo}
 
 -- The last link of a piece among the first n is one of these, and the piece's own; what is passed on from there on
 -- back is all that is passed on. 0 says that there is none, and then nothing is.

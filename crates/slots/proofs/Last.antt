@@ -1,26 +1,24 @@
 -- Who a desk worked on last. Unless that piece is finished it is waiting still, and the desk leaves it only for a piece
 -- that was never worked on: an interruption is always by a piece that is begun with it.
-use Prim.Native.Nat.{ℕ, zero, suc, _+_, _-_, _≤_, _<_}
-use mathlib.Core.Bool.{Bool, true, false, not, _&&_}
-use mathlib.Core.List.{List, [], _∷_, _++_, List·Memᴰ as Mem}
-use mathlib.Core.Option.{Option, none, some}
+use Prim.Native.Nat.{ℕ, zero, suc, _+_, _<_}
+use mathlib.Core.Bool.{true}
+use mathlib.Core.List.{List, [], _∷_, _++_}
+use mathlib.Core.Option.{none, some}
 use mathlib.Core.Path.{_≡_, refl, sym, ap, _∙_}
 use native.Mathlib.Omega.{arith}
 use borrow.Author.Tests.{ltb-true, ltb-false}
 use lib.Dec.{ltb}
-use Rattle.rules.specs.Words.{when}
-use Rattle.rules.specs.Job.{Job, pieceCount, piece, desk, duration, linksInto}
-use Rattle.rules.specs.Moments.{delay, sooner}
-use Rattle.rules.specs.Urgency.{progress, isReady, workAt, worked, workedOn}
+use Rattle.rules.specs.Job.{Job, pieceCount, piece, desk, duration}
+use Rattle.rules.specs.Moments.{sooner}
+use Rattle.rules.specs.Urgency.{isReady, workAt, worked}
 use Rattle.rules.specs.Runs.{Run}
 use Rattle.rules.specs.Tables.{Sound}
-use Rattle.rules.specs.declared.Link.{Link}
 use Rattle.laws.proofs.Words.{by-test, true-or-false}
 use Rattle.laws.proofs.Sound.{into-link, link-fit}
 use Rattle.laws.proofs.Hours.{always-open}
 use Rattle.laws.proofs.Progress.{left-falls, left-whole, finished-for-good}
 use Rattle.laws.proofs.Order.{sooner-asym}
-use Rattle.laws.proofs.Slots.{Waits, Chosen, by-choice, choice-none, worked-chosen, ready-release, ready-before, ready-intro, handed-fact, fact-handed, work-start, work-on, work-off, by-work, none-or-some, some-inj}
+use Rattle.laws.proofs.Slots.{Waits, by-choice, choice-none, worked-chosen, ready-release, ready-before, ready-intro, handed-fact, fact-handed, work-start, work-off, by-work, none-or-some, some-inj}
 use Rattle.slots.specs.Stretch.{at}
 use Rattle.slots.specs.Growth.{goesOnAt, freshRun, longer, grown, afterTurn, runsUntil, lastPiece, lastEnd, lastOn}
 use Rattle.slots.proofs.Growth.{by-last, goes-on, grown-on, grown-anew}

@@ -1,18 +1,18 @@
 -- A piece is ready at a moment exactly if it waits for no unfinished piece and its ready moment has come; and what a
 -- piece waits for changes by one piece's links when one piece is finished.
 use Prim.Native.Nat.{ℕ, _+_, _≤_, _<_, max}
-use mathlib.Core.Bool.{Bool, true, false, not, _&&_}
+use mathlib.Core.Bool.{true, false, not, _&&_}
 use mathlib.Core.List.{List, [], _∷_, List·Memᴰ as Mem, List·Memᴰ·head as here, List·Memᴰ·tail as there}
-use mathlib.Core.Path.{_≡_, refl, sym, ap, _∙_}
+use mathlib.Core.Path.{_≡_, refl}
 use native.Mathlib.Omega.{arith}
-use borrow.Author.Tests.{eqb-true, eqb-false, eq-eqb, ne-eqb, leb-true}
-use lib.Dec.{leb, eqb}
+use borrow.Author.Tests.{eqb-true, eqb-false, eq-eqb, ne-eqb}
+use lib.Dec.{eqb}
 use Rattle.rules.specs.Words.{when}
-use Rattle.rules.specs.Job.{Job, piece, linksInto}
+use Rattle.rules.specs.Job.{Job, piece}
 use Rattle.rules.specs.Moments.{delay}
 use Rattle.rules.specs.Urgency.{Progress, progress, isReady}
 use Rattle.rules.specs.declared.Link.{Link}
-use Rattle.laws.proofs.Words.{by-test, on-tail, and-intro}
+use Rattle.laws.proofs.Words.{by-test}
 use Rattle.laws.proofs.Sound.{into-link, link-into}
 use Rattle.laws.proofs.Slots.{ready-release, ready-before, ready-intro, handed-fact, fact-handed}
 use Rattle.slots.specs.Standing.{done, waitsFor, asks, readyBy, waitsOf, readyOf, linksTo, askedBy, linksAt}

@@ -1,8 +1,8 @@
 -- The tables before the first slot hold the plan at moment 0.
-use Prim.Native.Nat.{ℕ, zero, suc, _+_, _≤_, _<_}
-use mathlib.Core.Bool.{true, false}
+use Prim.Native.Nat.{ℕ, zero, suc, _+_, _<_}
+use mathlib.Core.Bool.{false}
 use mathlib.Core.List.{List, [], _∷_, _++_, map, map-append, List·Memᴰ as Mem}
-use mathlib.Core.Logic.{_⊎_, inl, inr}
+use mathlib.Core.Logic.{inl}
 use mathlib.Core.Path.{_≡_, refl, sym, ap, _∙_}
 use native.Mathlib.Omega.{arith}
 use lib.Dec.{eqb}
@@ -10,16 +10,15 @@ use lib.ListN.{length, getD}
 use Rattle.rules.specs.Words.{when, below}
 use Rattle.rules.specs.Job.{Job, pieceCount, piece, duration}
 use Rattle.rules.specs.Tables.{Sound, linkIn}
-use Rattle.rules.specs.Urgency.{Progress, untouched}
 use Rattle.rules.specs.declared.Link.{Link}
 use Rattle.laws.proofs.Slots.{work-start}
 use Rattle.laws.proofs.Sound.{fits, link-fit}
 use Rattle.slots.specs.Growth.{runsUntil}
-use Rattle.slots.specs.Standing.{done, waitsFor, readyBy, waitsOf, readyOf, linksAt}
+use Rattle.slots.specs.Standing.{done, waitsOf, readyOf, linksAt}
 use Rattle.slots.specs.Stretch.{at}
 use Rattle.slots.proofs.Standing.{left-undone, fresh-waits, fresh-ready}
 use Rattle.steps.specs.Handover.{intoOf, Waiting}
-use Rattle.steps.specs.Log.{Log, loggedRuns}
+use Rattle.steps.specs.Log.{Log}
 use Rattle.steps.specs.Work.{Work}
 use Rattle.steps.proofs.LinkStep.{WaitHeld}
 use Rattle.steps.proofs.LogHeld.{LastRun, LogHeld}

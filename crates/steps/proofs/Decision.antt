@@ -1,26 +1,25 @@
 -- The choice over the tables is that of the plan: where the tables say how far the pieces are at moment t, every desk
 -- chooses whom it works on in slot t.
-use Prim.Native.Nat.{ℕ, zero, suc, _+_, _≤_, _<_}
+use Prim.Native.Nat.{ℕ, zero, suc, _≤_, _<_}
 use mathlib.Core.Bool.{Bool, true, false, _&&_}
 use mathlib.Core.List.{List}
 use mathlib.Core.Logic.{_⊎_, inl, inr}
-use mathlib.Core.Option.{Option, none, some}
 use mathlib.Core.Path.{_≡_, refl, sym, ap, _∙_}
 use native.Mathlib.Omega.{arith}
 use borrow.Author.Tests.{ltb-true, ltb-false, leb-true, lt-ltb, le-ltb, le-leb, eqb-true, eqb-false, eq-eqb}
 use lib.Dec.{leb, ltb, eqb}
-use lib.IntN.{ℤ, pos}
-use lib.ListN.{length, getD, set, replicate, length-set, length-replicate, getD-replicate}
+use lib.IntN.{pos}
+use lib.ListN.{length, getD, set, replicate, length-set, getD-replicate}
 use lib.Seq.{getD-set-same, getD-set-other}
-use lib.Signed.{ltZ, leZ}
+use lib.Signed.{ltZ}
 use Rattle.rules.specs.Words.{when}
 use Rattle.rules.specs.Job.{Job, pieceCount, desk}
 use Rattle.rules.specs.Moments.{latest, sooner}
-use Rattle.rules.specs.Urgency.{progress, isReady, workAt, worked, choice}
+use Rattle.rules.specs.Urgency.{workAt, worked}
 use Rattle.laws.proofs.Hours.{always-open}
 use Rattle.laws.proofs.Order.{smaller-sooner, sooner-trans}
-use Rattle.laws.proofs.Signed.{up, dn, _≼_, _≺_, ltZ-lt, ltZ-le}
-use Rattle.laws.proofs.Slots.{Waits, Chosen, chosen-choice, resting-choice}
+use Rattle.laws.proofs.Signed.{ltZ-lt, ltZ-le}
+use Rattle.laws.proofs.Slots.{Waits, chosen-choice, resting-choice}
 use Rattle.laws.proofs.Words.{by-test, true-or-false, and-true, and-intro, when-true, when-false}
 use Rattle.slots.specs.Standing.{waitsOf, readyOf}
 use Rattle.slots.specs.Stretch.{at}

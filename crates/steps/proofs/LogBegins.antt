@@ -1,34 +1,32 @@
 -- A desk works on, and a run begins: the log has it behind the others, and there is room for it.
-use Prim.Native.Nat.{ℕ, zero, suc, _+_, _-_, _≤_, _<_}
-use mathlib.Core.Bool.{Bool, true, false, _&&_}
+use Prim.Native.Nat.{ℕ, suc, _+_, _-_, _≤_, _<_}
+use mathlib.Core.Bool.{true, false}
 use mathlib.Core.List.{List, [], _∷_, _++_}
-use mathlib.Core.Logic.{_⊎_, inl, inr}
-use mathlib.Core.Option.{Option, none, some}
+use mathlib.Core.Logic.{inl, inr}
+use mathlib.Core.Option.{some}
 use mathlib.Core.Path.{_≡_, refl, sym, ap, _∙_}
 use native.Mathlib.Numerals.{add-one}
 use native.Mathlib.Omega.{arith}
-use borrow.Author.Tests.{ltb-true, ltb-false, lt-ltb, le-ltb, eqb-true, eqb-false, eq-eqb, ne-eqb}
+use borrow.Author.Tests.{ltb-true, ltb-false, eqb-true, eqb-false, eq-eqb, ne-eqb}
 use lib.Dec.{ltb, eqb}
-use lib.ListN.{length, getD, set, length-set}
+use lib.ListN.{length, getD, length-set}
 use lib.Seq.{getD-set-same, getD-set-other}
-use Rattle.rules.specs.Words.{when}
 use Rattle.rules.specs.Job.{Job, pieceCount, desk}
 use Rattle.rules.specs.Runs.{Run}
 use Rattle.rules.specs.Tables.{Sound}
 use Rattle.rules.specs.Urgency.{worked}
-use Rattle.laws.proofs.Slots.{by-choice, worked-chosen, none-or-some, some-inj}
-use Rattle.laws.proofs.Words.{by-test, true-or-false, and-true, when-true, when-false}
-use Rattle.slots.specs.Growth.{goesOnAt, freshRun, longer, grown, runsUntil, lastPiece, lastEnd, lastOn}
+use Rattle.laws.proofs.Slots.{worked-chosen, none-or-some, some-inj}
+use Rattle.laws.proofs.Words.{by-test, true-or-false}
+use Rattle.slots.specs.Growth.{goesOnAt, freshRun, grown, runsUntil, lastPiece, lastEnd, lastOn}
 use Rattle.slots.specs.Stretch.{at, Stretch}
 use Rattle.slots.proofs.Growth.{grown-anew, going-on}
 use Rattle.slots.proofs.Last.{last-piece, last-end, under-way}
-use Rattle.slots.proofs.Score.{Rises, run-rises}
-use Rattle.steps.specs.Choice.{codeOf}
-use Rattle.steps.specs.Log.{Log, log, stays, lengthened, begun, noteOn, noteTo, runAt, loggedRuns}
-use Rattle.steps.proofs.LogHeld.{Placed, logged, LastRun, LogHeld, rested-runs, worked-runs, resting-held}
+use Rattle.slots.proofs.Score.{run-rises}
+use Rattle.steps.specs.Log.{Log, begun, runAt, loggedRuns}
+use Rattle.steps.proofs.LogHeld.{Placed, logged, LastRun, LogHeld, worked-runs}
 use Rattle.steps.proofs.LogLists.{ownRun, own-more, other-more, last-logged, logged-same}
 use Rattle.steps.proofs.Moved.{momentOf, moment-early, moment-late, moment-other}
-use Rattle.steps.proofs.Scores.{scores, scores-most, scores-less, scores-grow, scores-rise}
+use Rattle.steps.proofs.Scores.{scores, scores-less, scores-rise}
 
 -- The run at place c = the count of runs so far, which is the last one now.
 module _ (desks : List ℕ) (l : Log) (t u d i : ℕ) (room : l .runs < 512) (piece-sized : length (l .piece) ≡ 512)

@@ -1,10 +1,10 @@
 -- The log over a step: with every desk moved on its runs are the plan's up to the next moment.
 use Prim.Native.Nat.{ℕ, zero, suc, _+_, _≤_, _<_}
 use mathlib.Core.Bool.{Bool, true, false, _&&_}
-use mathlib.Core.List.{List, map}
-use mathlib.Core.Logic.{_⊎_, inl, inr}
-use mathlib.Core.Option.{Option, none, some}
-use mathlib.Core.Path.{_≡_, refl, sym, ap, _∙_}
+use mathlib.Core.List.{List}
+use mathlib.Core.Logic.{inl, inr}
+use mathlib.Core.Option.{some}
+use mathlib.Core.Path.{_≡_, sym, ap, _∙_}
 use native.Mathlib.Omega.{arith}
 use borrow.Author.Tests.{ltb-true, lt-ltb, le-ltb}
 use lib.Dec.{ltb, eqb}
@@ -14,12 +14,12 @@ use Rattle.rules.specs.Job.{Job, pieceCount, desk}
 use Rattle.rules.specs.Tables.{Sound}
 use Rattle.rules.specs.Urgency.{worked}
 use Rattle.laws.proofs.Slots.{by-choice, worked-chosen}
-use Rattle.laws.proofs.Words.{by-test, and-true, when-true, when-false, map-same, mem-below}
-use Rattle.slots.specs.Growth.{goesOnAt, runsUntil, score}
+use Rattle.laws.proofs.Words.{by-test, and-true, map-same, mem-below}
+use Rattle.slots.specs.Growth.{goesOnAt, score}
 use Rattle.slots.specs.Stretch.{Stretch}
 use Rattle.steps.specs.Choice.{codeOf}
-use Rattle.steps.specs.Log.{Log, stays, lengthened, begun, noteOn, noteTo, runAt}
-use Rattle.steps.proofs.LogHeld.{Placed, logged, LastRun, LogHeld, resting-held}
+use Rattle.steps.specs.Log.{Log, stays, lengthened, noteOn, noteTo, runAt}
+use Rattle.steps.proofs.LogHeld.{Placed, LastRun, LogHeld, resting-held}
 use Rattle.steps.proofs.LogGoesOn.{stays-goes, goes-on-held}
 use Rattle.steps.proofs.LogBegins.{room, begins-held}
 use Rattle.steps.proofs.Moved.{momentOf, moment-early, moment-late}

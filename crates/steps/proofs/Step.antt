@@ -3,10 +3,10 @@
 use Prim.Native.Nat.{ℕ, _+_, _-_, _≤_, _<_}
 use mathlib.Core.List.{List}
 use mathlib.Core.Option.{none}
-use mathlib.Core.Path.{_≡_, refl, sym, ap, _∙_}
+use mathlib.Core.Path.{_≡_}
 use native.Mathlib.Omega.{arith}
 use lib.ListN.{getD}
-use Rattle.rules.specs.Job.{Job, pieceCount, desk}
+use Rattle.rules.specs.Job.{Job, desk}
 use Rattle.rules.specs.Rings.{ringPiece}
 use Rattle.rules.specs.Tables.{Sound}
 use Rattle.rules.specs.Urgency.{worked, horizon}

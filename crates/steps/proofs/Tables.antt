@@ -1,15 +1,14 @@
 -- A job made of tables has those tables.
-use Prim.Native.Nat.{ℕ, zero, suc, _+_, _≤_, _<_}
-use mathlib.Core.List.{List, [], _∷_, _++_, map}
-use mathlib.Core.Path.{_≡_, refl, sym, ap, _∙_}
+use Prim.Native.Nat.{ℕ, zero, suc, _+_, _<_}
+use mathlib.Core.List.{List, [], _∷_, _++_}
+use mathlib.Core.Path.{_≡_, refl, ap, _∙_}
 use native.Mathlib.Omega.{arith}
-use lib.IntN.{ℤ, pos}
-use lib.ListN.{length, getD, length-map}
+use lib.IntN.{pos}
+use lib.ListN.{getD, length-map}
 use Rattle.rules.specs.Words.{row, below}
-use Rattle.rules.specs.Job.{Job, pieceCount, piece, desk, duration, noPiece}
+use Rattle.rules.specs.Job.{Job, piece, desk, duration, noPiece}
 use Rattle.rules.specs.Moments.{latest}
-use Rattle.rules.specs.Tables.{pieceIn, linkIn, piecesIn, linksIn, jobIn}
-use Rattle.rules.specs.declared.Piece.{Piece}
+use Rattle.rules.specs.Tables.{pieceIn, piecesIn, linksIn, jobIn}
 use Rattle.laws.proofs.Words.{length-below, getD-below}
 use Rattle.steps.specs.Tables.{Tables, Listed}
 

@@ -1,5 +1,5 @@
 -- What the tables say of a job: its pieces and links, and the latest moments of its pieces.
-use Prim.Native.Nat.{ℕ, _≤_, _<_}
+use Prim.Native.Nat.{ℕ, _<_}
 use mathlib.Core.List.{List, map}
 use mathlib.Core.Path.{_≡_}
 use lib.IntN.{ℤ, pos}

@@ -1,6 +1,6 @@
 -- From the contract's side to the steps': the tables given make a job whose plan they hold step by step, and where no
 -- step is left the tables have the whole plan.
-use Prim.Native.Nat.{ℕ, _+_, _≤_, _<_}
+use Prim.Native.Nat.{ℕ, _≤_, _<_}
 use mathlib.Core.List.{List}
 use mathlib.Core.Path.{_≡_, refl, sym, ap, _∙_}
 use native.Mathlib.Omega.{arith}
@@ -25,7 +25,7 @@ use Rattle.steps.proofs.Begin.{begun-work, begun-waits, begun-log}
 use Rattle.steps.proofs.Scores.{scores-most}
 use Rattle.steps.proofs.Step.{Held, few-pieces, few-desks, ahead, at-most, within, finished, step}
 use Rattle.steps.proofs.Tables.{jobOf, listed}
-use Rattle.urgency.specs.Plan.{Given, Sized, Planned, Begun}
+use Rattle.urgency.specs.Plan.{Given, Planned, Begun}
 
 module _ (T : Tables) (dues : List ℕ) where
   abbrev pub job : Job

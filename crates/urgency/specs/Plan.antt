@@ -10,7 +10,7 @@ use Rattle.rules.specs.Job.{Job}
 use Rattle.rules.specs.Moments.{latest}
 use Rattle.rules.specs.Rings.{ringPiece}
 use Rattle.rules.specs.Runs.{runs}
-use Rattle.rules.specs.Tables.{Sound, jobIn}
+use Rattle.rules.specs.Tables.{Sound}
 use Rattle.rules.specs.Urgency.{start, finish}
 use Rattle.steps.specs.Log.{loggedRuns}
 

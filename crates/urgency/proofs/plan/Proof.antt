@@ -10,7 +10,6 @@ use Rattle.steps.specs.Log.{Log, log}
 use Rattle.steps.specs.Tables.{Tables}
 use Rattle.steps.specs.Work.{Work, work}
 use Rattle.steps.proofs.Tables.{jobOf}
-use Rattle.urgency.specs.Plan.{Given}
 use Rattle.urgency.proofs.Planned.{Going, few, desks-few, named, before-first, next-ahead, next-within, next-small, goes, planned}
 use Rattle.urgency.proofs.plan.Statement.{statement}
 use Rattle.urgency.proofs.plan.Tie as tie

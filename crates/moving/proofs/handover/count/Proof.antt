@@ -1,6 +1,6 @@
 -- `count` goes over the links. The loop's invariant: the table has for every piece the links into it among the first k.
 use Prim.Native.Nat.{_≤_, _<_, _-_}
-use mathlib.Core.Path.{_≡_, refl, sym, ap, _∙_}
+use mathlib.Core.Path.{_≡_}
 use native.Mathlib.Omega.{arith}
 use lib.ListN.{length, getD, length-set}
 use Rattle.steps.specs.Handover.{intoOf}
