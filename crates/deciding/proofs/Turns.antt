@@ -14,10 +14,10 @@ ready-more : (v : View) (i next : ℕ) → readyNext v (i + 1) next ≡ momentWi
 unfolding readyNext
 ready-more v i next = rw (add-one i)
 
-pub end-more : (t : ℕ) (left chosen : List ℕ) (d next : ℕ)
-    → endNext t left chosen (d + 1) next ≡ endWith t left (getD chosen d 0) (endNext t left chosen d next)
+pub end-more : (t : ℕ) (left chosen : List ℕ) (d next m r : ℕ) → m ≡ endNext t left chosen d next
+    → r ≡ endWith t left (getD chosen d 0) m → r ≡ endNext t left chosen (d + 1) next
 unfolding endNext
-end-more t left chosen d next = rw (add-one d)
+end-more t left chosen d next m r a b = rw (add-one d, ← a) b
 
 -- One more piece looked at.
 pub look-more : (v : View) (i : ℕ) (C D E : List ℕ) (m r : ℕ) → LookedAt v i C D m → Considered v i D m E r

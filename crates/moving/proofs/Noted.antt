@@ -52,7 +52,7 @@ module _ (t next d i : ℕ) (l : Log) where
       sym (when-true _ _ _ (lt-ltb i 256 (omega arith)) ∙ when-false _ _ _ e
       ∙ when-true _ _ _ (lt-ltb (l .runs) 512 (omega arith)))
 
-pub note-more : (t next : ℕ) (chosen : List ℕ) (d : ℕ) (l : Log)
-    → noteTo t next chosen (d + 1) l ≡ noteOn t next d (getD chosen d 0) (noteTo t next chosen d l)
+pub note-more : (t next : ℕ) (chosen : List ℕ) (d : ℕ) (l k r : Log) → k ≡ noteTo t next chosen d l
+    → r ≡ noteOn t next d (getD chosen d 0) k → r ≡ noteTo t next chosen (d + 1) l
 unfolding noteTo
-note-more t next chosen d l = rw (add-one d)
+note-more t next chosen d l k r a b = rw (add-one d, ← a) b

@@ -68,13 +68,14 @@ module _ (l : Ties) (m c : ℕ) (left : List ℕ) where
       sym (when-false (ltb i 256 && eqb (getD left i 0) 0) _ _
       (rw (lt-ltb i 256 (omega arith)) (ne-eqb (getD left i 0) 0 (λ (z : getD left i 0 ≡ 0). omega arith))))
 
-  pub finished-hands : (i : ℕ) (s : Waiting) → i ≤ 255 → getD left i 0 ≤ 0 → passFrom l i c m s ≡ handOn l m c left i s
+  pub finished-hands : (i : ℕ) (s r : Waiting) → i ≤ 255 → getD left i 0 ≤ 0 → r ≡ passFrom l i c m s
+      → r ≡ handOn l m c left i s
   unfolding handOn
-  finished-hands i s h u =
-      sym (when-true (ltb i 256 && eqb (getD left i 0) 0) (passFrom l i c m s) s
+  finished-hands i s r h u e =
+      e ∙ sym (when-true (ltb i 256 && eqb (getD left i 0) 0) (passFrom l i c m s) s
       (rw (lt-ltb i 256 (omega arith)) (eq-eqb (getD left i 0) 0 (omega arith))))
 
-  pub hand-more : (chosen : List ℕ) (d : ℕ) (s : Waiting)
-      → handTo l m c left chosen (d + 1) s ≡ handOn l m c left (getD chosen d 0) (handTo l m c left chosen d s)
+  pub hand-more : (chosen : List ℕ) (d : ℕ) (s q r : Waiting) → q ≡ handTo l m c left chosen d s
+      → r ≡ handOn l m c left (getD chosen d 0) q → r ≡ handTo l m c left chosen (d + 1) s
   unfolding handTo
-  hand-more chosen d s = rw (add-one d)
+  hand-more chosen d s q r a b = rw (add-one d, ← a) b

@@ -24,8 +24,7 @@ module _ (durations : List ℕ) (t next : ℕ) where
   works-on i u k l s w h f a b e =
       rw (a, f, e, b) (sym (when-true _ (forth durations t next i w) w (lt-ltb i 256 (omega arith))))
 
-  pub work-more : (chosen : List ℕ) (d : ℕ) (w : Work)
-      → workTo durations t next chosen (d + 1) w ≡ workOn durations t next (getD chosen d 0)
-      (workTo durations t next chosen d w)
+  pub work-more : (chosen : List ℕ) (d : ℕ) (w v r : Work) → v ≡ workTo durations t next chosen d w
+      → r ≡ workOn durations t next (getD chosen d 0) v → r ≡ workTo durations t next chosen (d + 1) w
   unfolding workTo
-  work-more chosen d w = rw (add-one d)
+  work-more chosen d w v r a b = rw (add-one d, ← a) b

@@ -1,8 +1,8 @@
 -- `first_end` goes over the desks. The loop's invariant: the least moment so far is that over the first d desks.
 use Prim.Native.Nat.{_≤_, _-_}
-use mathlib.Core.Path.{_≡_, refl, sym, ap, _∙_}
+use mathlib.Core.Path.{_≡_, refl}
 use native.Mathlib.Omega.{arith}
-use Rattle.steps.specs.Choice.{endWith, endNext}
+use Rattle.steps.specs.Choice.{endNext}
 use Rattle.deciding.proofs.Turns.{end-more}
 use Rattle.deciding.proofs.first_end.Statement.{statement}
 use Rattle.deciding.proofs.first_end.Tie as tie
@@ -34,10 +34,11 @@ loop-less c = omega arith
 
 loop-again : tie.Need-loop-again Inv-loop μ-loop
 loop-again c =
-    let a = c .before .before .before .before .args in (
+    let a = c .before .before .before .before .args in
+    let l = c .before .before .before .loop in (
       omega arith,
-      c .earlier-end .ensures ∙ ap (endWith (a .t) (a .left .now) _) (c .before .before .before .loop .inv .1)
-          ∙ sym (end-more (a .t) (a .left .now) (a .chosen .now) _ (a .next)),
+      end-more (a .t) (a .left .now) (a .chosen .now) (l .d) (a .next) (l .least) (c .earlier-end .result) (l .inv .1)
+          (c .earlier-end .ensures),
     )
 
 returns : tie.Need-returns Inv-loop μ-loop

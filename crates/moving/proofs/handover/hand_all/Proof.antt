@@ -1,9 +1,9 @@
 -- `hand_all` goes over the desks. The loop's invariant: the tables are what the pieces chosen by the first d desks
 -- make of them.
 use Prim.Native.Nat.{_≤_, _-_}
-use mathlib.Core.Path.{_≡_, refl, sym, ap, _∙_}
+use mathlib.Core.Path.{_≡_, refl}
 use native.Mathlib.Omega.{arith}
-use Rattle.steps.specs.Handover.{ties, waiting, handOn, handTo}
+use Rattle.steps.specs.Handover.{ties, waiting, handTo}
 use Rattle.moving.proofs.Passed.{hand-more}
 use Rattle.moving.proofs.handover.hand_all.Statement.{statement}
 use Rattle.moving.proofs.handover.hand_all.Tie as tie
@@ -42,8 +42,8 @@ loop-again c =
     let l = c .before .before .before .before .before .loop in
     let t = ties (a .desks .now) (a .befores .now) (a .afters .now) (a .handovers .now) in (
       omega arith,
-      c .hand-on .ensures ∙ ap (handOn t (a .m) (a .c) (a .left .now) _) (l .inv .1)
-          ∙ sym (hand-more t (a .m) (a .c) (a .left .now) (a .chosen .now) (l .d) _),
+      hand-more t (a .m) (a .c) (a .left .now) (a .chosen .now) (l .d) (waiting (a .waits .now) (a .ready .now))
+          (waiting (l .waits) (l .ready)) _ (l .inv .1) (c .hand-on .ensures),
     )
 
 returns : tie.Need-returns Inv-loop μ-loop

@@ -1,6 +1,5 @@
 -- `hand_on` passes on what piece i lets go. Each return is one of the ways: there is no piece, it is unfinished, or its
 -- links are looked at.
-use mathlib.Core.Path.{_∙_}
 use native.Mathlib.Omega.{arith}
 use Rattle.steps.specs.Handover.{Ties, ties, Waiting, waiting}
 use Rattle.moving.proofs.Passed.{nobody-hands, unfinished-hands, finished-hands}
@@ -41,9 +40,8 @@ returns-3 c =
     let test = c .before .before .before in
     let s = test .before .before .before in
     let a = s .args in
-    c .pass-on .ensures
-    ∙ finished-hands (tied s) (a .m) (a .c) (a .left .now) (a .i) (was s) (test .before .before .if1 .left)
-    (test .if2 .left)
+    finished-hands (tied s) (a .m) (a .c) (a .left .now) (a .i) (was s) _ (test .before .before .if1 .left)
+    (test .if2 .left) (c .pass-on .ensures)
 
 pub hand-on-spec : {M : Type 1} → statement M
 hand-on-spec =

@@ -1,5 +1,4 @@
 -- `pass` stores what one link lets go: one wait less, and the greater of two ready moments.
-use native.Mathlib.Omega.{arith}
 use Rattle.steps.specs.Handover.{ties, waiting}
 use Rattle.moving.proofs.Passed.{passed-on, delay-is}
 use borrow.Author.Needs.{needs}
@@ -7,55 +6,55 @@ use Rattle.moving.proofs.handover.pass.Statement.{statement}
 use Rattle.moving.proofs.handover.pass.Tie as tie
 
 mul-b : tie.Need-mul-b
-mul-b c = omega arith
+mul-b c = search needs
 
 element-copy-out-b : tie.Need-element-copy-out-b
-element-copy-out-b c = omega arith
+element-copy-out-b c = search needs
 
 cast-b : tie.Need-cast-b
-cast-b c = omega arith
+cast-b c = search needs
 
 mul-a : tie.Need-mul-a
-mul-a c = omega arith
+mul-a c = search needs
 
 element-copy-out-a : tie.Need-element-copy-out-a
-element-copy-out-a c = omega arith
+element-copy-out-a c = search needs
 
 cast-a : tie.Need-cast-a
-cast-a c = omega arith
+cast-a c = search needs
 
 mul-less : tie.Need-mul-less
-mul-less c = omega arith
+mul-less c = search needs
 
 element-copy-out-less : tie.Need-element-copy-out-less
-element-copy-out-less c = omega arith
+element-copy-out-less c = search needs
 
 less-requires : tie.Need-less-requires
 less-requires c κs = search needs
 
 mul-waits : tie.Need-mul-waits
-mul-waits c = omega arith
+mul-waits c = search needs
 
 element-write-waits : tie.Need-element-write-waits
-element-write-waits c = omega arith
+element-write-waits c = search needs
 
 mul-greater : tie.Need-mul-greater
-mul-greater c = omega arith
+mul-greater c = search needs
 
 element-copy-out-greater : tie.Need-element-copy-out-greater
-element-copy-out-greater c = omega arith
+element-copy-out-greater c = search needs
 
 element-copy-out-delay : tie.Need-element-copy-out-delay
-element-copy-out-delay c = omega arith
+element-copy-out-delay c = search needs
 
 element-copy-out-delay-2 : tie.Need-element-copy-out-delay-2
-element-copy-out-delay-2 c = omega arith
+element-copy-out-delay-2 c = search needs
 
 mul-wide : tie.Need-mul-wide
-mul-wide c = omega arith
+mul-wide c = search needs
 
 element-copy-out-wide : tie.Need-element-copy-out-wide
-element-copy-out-wide c = omega arith
+element-copy-out-wide c = search needs
 
 wide-requires : tie.Need-wide-requires
 wide-requires c κs = search needs
@@ -64,16 +63,16 @@ delay-requires : tie.Need-delay-requires
 delay-requires c κs = search needs
 
 add-greater : tie.Need-add-greater
-add-greater c = omega arith
+add-greater c = search needs
 
 greater-requires : tie.Need-greater-requires
 greater-requires c κs = search needs
 
 mul-ready : tie.Need-mul-ready
-mul-ready c = omega arith
+mul-ready c = search needs
 
 element-write-ready : tie.Need-element-write-ready
-element-write-ready c = omega arith
+element-write-ready c = search needs
 
 returns : tie.Need-returns
 returns c =

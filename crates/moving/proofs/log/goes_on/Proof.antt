@@ -1,5 +1,4 @@
 -- `goes_on` tests the run at a place of the log: there is one, it is of the piece, and it ends at the moment.
-use native.Mathlib.Omega.{arith}
 use mathlib.Core.Path.{sym, _∙_}
 use Rattle.moving.proofs.Noted.{no-place, other-piece, same-piece}
 use borrow.Author.Needs.{needs}
@@ -12,19 +11,19 @@ returns c =
     no-place (a .piece .now) (a .until .now) (a .k) (a .i) (a .t) (c .if1 .taken)
 
 mul-place : tie.Need-mul-place
-mul-place c = omega arith
+mul-place c = search needs
 
 element-copy-out-place : tie.Need-element-copy-out-place
-element-copy-out-place c = omega arith
+element-copy-out-place c = search needs
 
 place-requires : tie.Need-place-requires
 place-requires c κs = search needs
 
 mul-result : tie.Need-mul-result
-mul-result c = omega arith
+mul-result c = search needs
 
 element-copy-out-result : tie.Need-element-copy-out-result
-element-copy-out-result c = omega arith
+element-copy-out-result c = search needs
 
 returns-2 : tie.Need-returns-2
 returns-2 c =

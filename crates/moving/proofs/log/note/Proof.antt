@@ -19,10 +19,10 @@ returns c =
     let a = c .before .args in nobody-noted (a .t) (a .next) (a .d) (a .i) (was (c .before)) (c .if1 .taken)
 
 mul-k : tie.Need-mul-k
-mul-k c = omega arith
+mul-k c = search needs
 
 element-copy-out-k : tie.Need-element-copy-out-k
-element-copy-out-k c = omega arith
+element-copy-out-k c = search needs
 
 goes-on-requires : tie.Need-goes-on-requires
 goes-on-requires c κs = search needs
@@ -59,34 +59,34 @@ returns-3 c =
     (sym (g .goes-on .ensures) ∙ c .before .if2 .left) (c .if3 .taken)
 
 cast-piece : tie.Need-cast-piece
-cast-piece c = omega arith
+cast-piece c = search needs
 
 mul-piece : tie.Need-mul-piece
-mul-piece c = omega arith
+mul-piece c = search needs
 
 element-write-piece : tie.Need-element-write-piece
-element-write-piece c = omega arith
+element-write-piece c = search needs
 
 mul-from : tie.Need-mul-from
-mul-from c = omega arith
+mul-from c = search needs
 
 element-write-from : tie.Need-element-write-from
-element-write-from c = omega arith
+element-write-from c = search needs
 
 mul-until-2 : tie.Need-mul-until-2
-mul-until-2 c = omega arith
+mul-until-2 c = search needs
 
 element-write-until-2 : tie.Need-element-write-until-2
-element-write-until-2 c = omega arith
+element-write-until-2 c = search needs
 
 mul-last : tie.Need-mul-last
-mul-last c = omega arith
+mul-last c = search needs
 
 element-write-last : tie.Need-element-write-last
-element-write-last c = omega arith
+element-write-last c = search needs
 
 add-result : tie.Need-add-result
-add-result c = omega arith
+add-result c = search needs
 
 returns-4 : tie.Need-returns-4
 returns-4 c =

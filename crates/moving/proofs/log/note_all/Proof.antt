@@ -1,8 +1,8 @@
 -- `note_all` goes over the desks. The loop's invariant: the log is what the first d desks make of it.
 use Prim.Native.Nat.{_≤_, _-_}
-use mathlib.Core.Path.{_≡_, refl, sym, ap, _∙_}
+use mathlib.Core.Path.{_≡_, refl}
 use native.Mathlib.Omega.{arith}
-use Rattle.steps.specs.Log.{log, noteOn, noteTo}
+use Rattle.steps.specs.Log.{log, noteTo}
 use Rattle.moving.proofs.Noted.{note-more}
 use borrow.Author.Needs.{needs}
 use Rattle.moving.proofs.log.note_all.Statement.{statement}
@@ -39,8 +39,8 @@ loop-again c =
     let a = c .before .before .before .before .before .before .before .before .args in
     let l = c .before .before .before .before .before .before .before .loop in (
       omega arith,
-      c .note .ensures ∙ ap (noteOn (a .t) (a .next) (l .d) _) (l .inv .1)
-          ∙ sym (note-more (a .t) (a .next) (a .chosen .now) (l .d) _),
+      note-more (a .t) (a .next) (a .chosen .now) (l .d) (log (a .runs) (a .last .now) (a .piece .now) (a .from .now) (a .until .now))
+          (log (l .count) (l .last) (l .piece) (l .from) (l .until)) _ (l .inv .1) (c .note .ensures),
     )
 
 returns : tie.Need-returns Inv-loop μ-loop

@@ -1,8 +1,8 @@
 -- `work_all` goes over the desks. The loop's invariant: the tables are what the first d desks make of them.
 use Prim.Native.Nat.{_≤_, _-_}
-use mathlib.Core.Path.{_≡_, refl, sym, ap, _∙_}
+use mathlib.Core.Path.{_≡_, refl}
 use native.Mathlib.Omega.{arith}
-use Rattle.steps.specs.Work.{work, workOn, workTo}
+use Rattle.steps.specs.Work.{work, workTo}
 use Rattle.moving.proofs.Worked.{work-more}
 use borrow.Author.Needs.{needs}
 use Rattle.moving.proofs.work.work_all.Statement.{statement}
@@ -39,8 +39,8 @@ loop-again c =
     let a = c .before .before .before .before .before .before .before .args in
     let l = c .before .before .before .before .before .before .loop in (
       omega arith,
-      c .work-on .ensures ∙ ap (workOn (a .durations .now) (a .t) (a .next) _) (l .inv .1)
-          ∙ sym (work-more (a .durations .now) (a .t) (a .next) (a .chosen .now) (l .d) _),
+      work-more (a .durations .now) (a .t) (a .next) (a .chosen .now) (l .d) (work (a .left .now) (a .start .now) (a .finish .now))
+          (work (l .left) (l .start) (l .finish)) _ (l .inv .1) (c .work-on .ensures),
     )
 
 returns : tie.Need-returns Inv-loop μ-loop
