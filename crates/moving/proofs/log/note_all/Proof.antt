@@ -39,7 +39,8 @@ loop-again c =
     let a = c .before .before .before .before .before .before .before .before .args in
     let l = c .before .before .before .before .before .before .before .loop in (
       omega arith,
-      note-more (a .t) (a .next) (a .chosen .now) (l .d) (log (a .runs) (a .last .now) (a .piece .now) (a .from .now) (a .until .now))
+      note-more (a .t) (a .next) (a .chosen .now) (l .d)
+          (log (a .runs) (a .last .now) (a .piece .now) (a .from .now) (a .until .now))
           (log (l .count) (l .last) (l .piece) (l .from) (l .until)) _ (l .inv .1) (c .note .ensures),
     )
 

@@ -39,7 +39,8 @@ loop-again c =
     let a = c .before .before .before .before .before .before .before .args in
     let l = c .before .before .before .before .before .before .loop in (
       omega arith,
-      work-more (a .durations .now) (a .t) (a .next) (a .chosen .now) (l .d) (work (a .left .now) (a .start .now) (a .finish .now))
+      work-more (a .durations .now) (a .t) (a .next) (a .chosen .now) (l .d)
+          (work (a .left .now) (a .start .now) (a .finish .now))
           (work (l .left) (l .start) (l .finish)) _ (l .inv .1) (c .work-on .ensures),
     )
 
