@@ -15,7 +15,7 @@ sets-on l i (x ∷ xs) ys =
 
 -- A record in four parts.
 pub record-in-parts : (l : List ℕ) (at kind d n a b c : ℕ)
-  → sets (sets (sets (sets l at (kind ∷ d ∷ half n)) (at + 4) (word a)) (at + 8) (word b)) (at + 12) (word c)
+    → sets (sets (sets (sets l at (kind ∷ d ∷ half n)) (at + 4) (word a)) (at + 8) (word b)) (at + 12) (word c)
     ≡ sets l at (planRecord kind d n (word a) (word b) (word c))
 unfolding planRecord half word
 record-in-parts l at kind d n a b c =

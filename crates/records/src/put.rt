@@ -37,7 +37,16 @@ fn put_head(buffer: &mut [u8], at: usize, kind: u8, desk: u8, number: u16)
     buffer[at + 3] = (number / 256 % 256) as u8;
 }
 
-pub fn put_record(buffer: &mut [u8], at: usize, kind: u8, desk: u8, number: u16, a: u32, b: u32, c: u32)
+pub fn put_record(
+    buffer: &mut [u8],
+    at: usize,
+    kind: u8,
+    desk: u8,
+    number: u16,
+    a: u32,
+    b: u32,
+    c: u32,
+)
     requires { ⌜ at + 16 ≤ length (now buffer) ⌝ }
     ensures { λ _. ⌜ now (buffer .exit) ≡ sets (now (buffer .entry)) at (planRecord kind desk number (word a) (word b) (word c)) ⌝ }
 {

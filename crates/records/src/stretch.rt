@@ -4,8 +4,8 @@ ghost use mathlib.Core.Bool.{_&&_};
 ghost use Prim.Native.Nat.{_+_, _*_, _≤_, _<_};
 ghost use lib.ListN.{length};
 ghost use Rattle.rules.specs.File.{wholeRecords};
-ghost use Rattle.rules.specs.DeskRuns.{isRunOf, firstRun, pastLastRun};
-ghost use Rattle.records.specs.Handed.{Handed};
+ghost use Rattle.rules.specs.DeskRuns.{isRunOf, firstRun};
+ghost use Rattle.records.specs.Handed.{PastLast, Handed};
 
 // Record k is a run of the desk.
 fn is_run_of(records: &[u8], desk: u8, k: usize) -> bool
@@ -37,7 +37,7 @@ fn first_run(records: &[u8], desk: u8) -> usize
 // One past the last record of the stretch that begins at record k.
 fn past_last_run(records: &[u8], desk: u8, first: usize) -> usize
     requires { ⌜ first ≤ wholeRecords (now records) ⌝ }
-    ensures { λ r. ⌜ r ≡ pastLastRun (now (records .entry)) desk first ⌝ }
+    ensures { λ r. ⌜ PastLast (now (records .entry)) desk first r ⌝ }
 {
     let whole = records.len() / 16;
     let mut k = first;
