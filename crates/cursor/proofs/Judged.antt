@@ -1,0 +1,69 @@
+-- The judgement of one record, law by law: a fault ends it and no fault lets it pass, a record is judged by its kind, and
+-- every kind byte but 1 and 2 is unknown.
+use Prim.Native.Nat.{ℕ, zero, suc}
+use mathlib.Core.List.{List}
+use mathlib.Core.Path.{_≡_, refl, ap, ap₂, sym, _∙_}
+use Rattle.rules.specs.File.{byteAt, Kind, ofPiece, ofLink, unknown, kindOf}
+use Rattle.rules.specs.Job.{Job}
+use Rattle.rules.specs.Reading.{firstFault, kindFault, orderFault, valueFault, zeroFault, unlessFault, recordFault, contents, judged}
+use Rattle.rules.specs.declared.Item.{Item}
+use Rattle.rules.specs.declared.Item.the-variants.{Stop}
+
+-- The first judgement decides where it finds a fault, and the later ones where it finds none.
+pub first-fault : (n later : ℕ) → (n ≡ 0 → ⊥) → firstFault n later ≡ n
+unfolding firstFault
+first-fault zero later h = absurd (h refl)
+first-fault (suc n) later h = refl
+
+pub later-fault : (n later : ℕ) → n ≡ 0 → firstFault n later ≡ later
+unfolding firstFault
+later-fault n later h = rw h
+
+-- A fault is the refusal of the record; without one the record says what it holds.
+pub stops : (n k : ℕ) (item : Item) → (n ≡ 0 → ⊥) → unlessFault n k item ≡ Stop (record { number = n; place = k })
+unfolding unlessFault
+stops zero k item h = absurd (h refl)
+stops (suc n) k item h = refl
+
+pub passes : (n k : ℕ) (item : Item) → n ≡ 0 → unlessFault n k item ≡ item
+unfolding unlessFault
+passes n k item h = rw h
+
+-- "Kind byte 0 and all from 3 to 255 are unknown."
+pub kind-unknown : (n : ℕ) → (n ≡ 1 → ⊥) → (n ≡ 2 → ⊥) → kindOf n ≡ unknown
+unfolding kindOf
+kind-unknown zero h1 h2 = refl
+kind-unknown (suc zero) h1 h2 = absurd (h1 refl)
+kind-unknown (suc (suc zero)) h1 h2 = absurd (h2 refl)
+kind-unknown (suc (suc (suc n))) h1 h2 = refl
+
+-- A record is judged by its kind.
+pub judged-as : (kind : Kind) (J : Job) (k : ℕ) (r : List ℕ) → kindOf (byteAt r 0) ≡ kind →
+    judged J k r ≡ unlessFault (recordFault kind J r) k (contents kind r)
+unfolding judged
+judged-as kind J k r h = rw h
+
+pub judged-piece : (J : Job) (k : ℕ) (r : List ℕ) → byteAt r 0 ≡ 1 →
+    judged J k r ≡ unlessFault (recordFault ofPiece J r) k (contents ofPiece r)
+unfolding kindOf
+judged-piece J k r h = judged-as ofPiece J k r (ap kindOf h)
+
+pub judged-link : (J : Job) (k : ℕ) (r : List ℕ) → byteAt r 0 ≡ 2 →
+    judged J k r ≡ unlessFault (recordFault ofLink J r) k (contents ofLink r)
+unfolding kindOf
+judged-link J k r h = judged-as ofLink J k r (ap kindOf h)
+
+pub judged-unknown : (J : Job) (k : ℕ) (r : List ℕ) → (byteAt r 0 ≡ 1 → ⊥) → (byteAt r 0 ≡ 2 → ⊥) →
+    judged J k r ≡ Stop (record { number = 2; place = k })
+unfolding recordFault unlessFault
+judged-unknown J k r h1 h2 = judged-as unknown J k r (kind-unknown (byteAt r 0) h1 h2)
+
+-- The judgements of a record of a known kind, one after the other: what the parts of the code answer is what it says.
+pub in-turn : (kind : Kind) (J : Job) (k : ℕ) (r : List ℕ) {order value zeros later fault : ℕ} {item i : Item} →
+    kindFault kind ≡ 0 → order ≡ orderFault kind J → value ≡ valueFault kind J r → zeros ≡ zeroFault kind r →
+    later ≡ firstFault value zeros → fault ≡ firstFault order later → item ≡ contents kind r →
+    i ≡ unlessFault fault k item → i ≡ unlessFault (recordFault kind J r) k (contents kind r)
+unfolding recordFault
+in-turn kind J k r known o v z l f it e =
+    e ∙ ap₂ (λ n x. unlessFault n k x)
+    (f ∙ ap₂ firstFault o (l ∙ ap₂ firstFault v z) ∙ sym (later-fault (kindFault kind) _ known)) it
