@@ -1,13 +1,16 @@
 -- The judgement of one record, law by law: a fault ends it and no fault lets it pass, a record is judged by its kind, and
 -- every kind byte but 1 and 2 is unknown.
-use Prim.Native.Nat.{ℕ, zero, suc}
+use Prim.Native.Nat.{ℕ, zero, suc, _≤_, _<_}
 use mathlib.Core.List.{List}
 use mathlib.Core.Path.{_≡_, refl, ap, ap₂, sym, _∙_}
-use Rattle.rules.specs.File.{byteAt, Kind, ofPiece, ofLink, unknown, kindOf}
+use borrow.Author.Tests.{lt-ltb, le-ltb}
+use Rattle.rules.specs.File.{byteAt, wholeRecords, recordAt, Kind, ofPiece, ofLink, unknown, kindOf}
 use Rattle.rules.specs.Job.{Job}
-use Rattle.rules.specs.Reading.{firstFault, kindFault, orderFault, valueFault, zeroFault, unlessFault, recordFault, contents, judged}
+use Rattle.rules.specs.Reading.{firstFault, kindFault, orderFault, valueFault, zeroFault, recordFault}
+use Rattle.rules.specs.Reading.{unlessFault, contents, judged, atEnd, itemAt}
 use Rattle.rules.specs.declared.Item.{Item}
 use Rattle.rules.specs.declared.Item.the-variants.{Stop}
+use Rattle.cursor.specs.Says.{judgedAs}
 
 -- The first judgement decides where it finds a fault, and the later ones where it finds none.
 pub first-fault : (n later : ℕ) → (n ≡ 0 → ⊥) → firstFault n later ≡ n
@@ -39,17 +42,17 @@ kind-unknown (suc (suc (suc n))) h1 h2 = refl
 
 -- A record is judged by its kind.
 pub judged-as : (kind : Kind) (J : Job) (k : ℕ) (r : List ℕ) → kindOf (byteAt r 0) ≡ kind →
-    judged J k r ≡ unlessFault (recordFault kind J r) k (contents kind r)
+    judged J k r ≡ judgedAs kind k r J
 unfolding judged
 judged-as kind J k r h = rw h
 
 pub judged-piece : (J : Job) (k : ℕ) (r : List ℕ) → byteAt r 0 ≡ 1 →
-    judged J k r ≡ unlessFault (recordFault ofPiece J r) k (contents ofPiece r)
+    judged J k r ≡ judgedAs ofPiece k r J
 unfolding kindOf
 judged-piece J k r h = judged-as ofPiece J k r (ap kindOf h)
 
 pub judged-link : (J : Job) (k : ℕ) (r : List ℕ) → byteAt r 0 ≡ 2 →
-    judged J k r ≡ unlessFault (recordFault ofLink J r) k (contents ofLink r)
+    judged J k r ≡ judgedAs ofLink k r J
 unfolding kindOf
 judged-link J k r h = judged-as ofLink J k r (ap kindOf h)
 
@@ -62,8 +65,17 @@ judged-unknown J k r h1 h2 = judged-as unknown J k r (kind-unknown (byteAt r 0) 
 pub in-turn : (kind : Kind) (J : Job) (k : ℕ) (r : List ℕ) {order value zeros later fault : ℕ} {item i : Item} →
     kindFault kind ≡ 0 → order ≡ orderFault kind J → value ≡ valueFault kind J r → zeros ≡ zeroFault kind r →
     later ≡ firstFault value zeros → fault ≡ firstFault order later → item ≡ contents kind r →
-    i ≡ unlessFault fault k item → i ≡ unlessFault (recordFault kind J r) k (contents kind r)
+    i ≡ unlessFault fault k item → i ≡ judgedAs kind k r J
 unfolding recordFault
 in-turn kind J k r known o v z l f it e =
     e ∙ ap₂ (λ n x. unlessFault n k x)
     (f ∙ ap₂ firstFault o (l ∙ ap₂ firstFault v z) ∙ sym (later-fault (kindFault kind) _ known)) it
+
+-- Record k is judged where it stands in the file; behind the last record comes the end.
+pub item-record : (s : List ℕ) (k : ℕ) (J : Job) → k < wholeRecords s → itemAt s k J ≡ judged J k (recordAt s k)
+unfolding itemAt
+item-record s k J h = rw (lt-ltb k (wholeRecords s) h)
+
+pub item-end : (s : List ℕ) (k : ℕ) (J : Job) → wholeRecords s ≤ k → itemAt s k J ≡ atEnd s
+unfolding itemAt
+item-end s k J h = rw (le-ltb k (wholeRecords s) h)

@@ -7,11 +7,7 @@ use mathlib.Core.Path.{_≡_, refl}
 use native.Mathlib.Omega.{arith}
 use lib.Dec.{eqb}
 use borrow.Author.Tests.{eq-eqb, ne-eqb, eqb-true, eqb-false}
-use Rattle.rules.specs.File.{byteAt, wordAt}
-
-by-test : {P : Type 0} (b : Bool) → (b ≡ true → P) → (b ≡ false → P) → P
-by-test true t f = t refl
-by-test false t f = f refl
+use Rattle.cursor.proofs.Tests.{by-test}
 
 -- The number in four bytes is zero where they are.
 pub zeros : (a b c d : ℕ) (rest : Bool) →

@@ -13,9 +13,8 @@ use rules::Refusal;
 ghost use mathlib.Core.Path.{_≡_};
 ghost use lib.ListN.{length};
 ghost use Rattle.rules.specs.File.{ofPiece, ofLink};
-ghost use Rattle.rules.specs.Job.{Job};
-ghost use Rattle.rules.specs.Reading.{unlessFault, recordFault, contents, judged, itemAt};
-ghost use Rattle.cursor.specs.Says.{Says};
+ghost use Rattle.rules.specs.Reading.{unlessFault, judged, itemAt};
+ghost use Rattle.cursor.specs.Says.{Says, judgedAs};
 
 // The refusal of record k, or its contents where no judgement found a fault.
 fn unless_fault(fault: u8, k: u64, item: Item) -> Item
@@ -33,7 +32,7 @@ fn unless_fault(fault: u8, k: u64, item: Item) -> Item
 // Record k as a piece: its order, its values, its zero bytes.
 fn piece_item(r: &[u8], k: u64, pieces: usize, links: usize) -> Item
     requires { ⌜ length (now r) ≡ 16 ⌝ }
-    ensures { λ i. ⌜ Says pieces links i (λ J. unlessFault (recordFault ofPiece J (now (r .entry))) k (contents ofPiece (now (r .entry)))) ⌝ }
+    ensures { λ i. ⌜ Says pieces links i (judgedAs ofPiece k (now (r .entry))) ⌝ }
 {
     let p = piece_of(r);
     let later = first_fault(piece_fault(p), piece_zero_fault(r));
@@ -44,7 +43,7 @@ fn piece_item(r: &[u8], k: u64, pieces: usize, links: usize) -> Item
 // Record k as a link.
 fn link_item(r: &[u8], k: u64, pieces: usize, links: usize) -> Item
     requires { ⌜ length (now r) ≡ 16 ⌝ }
-    ensures { λ i. ⌜ Says pieces links i (λ J. unlessFault (recordFault ofLink J (now (r .entry))) k (contents ofLink (now (r .entry)))) ⌝ }
+    ensures { λ i. ⌜ Says pieces links i (judgedAs ofLink k (now (r .entry))) ⌝ }
 {
     let l = link_of(r);
     let later = first_fault(link_fault(pieces, l), link_zero_fault(r));
