@@ -4,3 +4,4 @@ pub mod Zeros
 pub mod Judged
 pub mod Clean
 pub mod Fits
+pub mod Held

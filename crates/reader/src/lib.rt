@@ -1,6 +1,6 @@
 // A whole job file read into lent tables, or the first refusal met. The pieces stand before the links, so each kind has
 // its own loop; what ends the last of them is the end of the file or the refusal.
-use cursor::items::item_at;
+use cursor::reading::item;
 use rules::Item;
 use rules::Refusal;
 ghost use Prim.Native.Nat.{_≤_};
@@ -27,7 +27,7 @@ fn read_pieces(
 {
     let mut n: usize = 0;
     loop {
-        let Item::Work(p) = item_at(file, n, n, 0) else {
+        let Item::Work(p) = item(file, n, n, 0) else {
             return n;
         };
         desks[n] = p.desk;
@@ -52,7 +52,7 @@ fn read_links(
 {
     let mut m: usize = 0;
     loop {
-        let Item::Tie(l) = item_at(file, pieces + m, pieces, m) else {
+        let Item::Tie(l) = item(file, pieces + m, pieces, m) else {
             return m;
         };
         befores[m] = l.before;
@@ -77,7 +77,7 @@ pub fn read_job(
 {
     let pieces = read_pieces(file, desks, durations, releases, dues);
     let links = read_links(file, pieces, befores, afters, handovers);
-    let Item::Stop(refusal) = item_at(file, pieces + links, pieces, links) else {
+    let Item::Stop(refusal) = item(file, pieces + links, pieces, links) else {
         return Read::Job { pieces, links };
     };
     Read::Refused(refusal)

@@ -11,11 +11,11 @@ read-pieces-requires c κs = search needs
 read-links-requires : tie.Need-read-links-requires
 read-links-requires c κs = search needs
 
-add-item-at : tie.Need-add-item-at
-add-item-at c = search needs
+add-item : tie.Need-add-item
+add-item c = search needs
 
-item-at-requires : tie.Need-item-at-requires
-item-at-requires c κs = search needs
+item-requires : tie.Need-item-requires
+item-requires c κs = search needs
 
 enum-known-refusal : tie.Need-enum-known-refusal
 enum-known-refusal c = search needs
@@ -25,7 +25,7 @@ returns c =
     let file = now (c .before .before .before .before .before .before .before .before .before .before .before .before .args .file) in
     let front = c .before .before .before .before .before .before .read-pieces in
     let behind = c .before .before .read-links in
-    let item = c .before .item-at in
+    let item = c .before .item in
     record {
       says =
           accepts file (front .result) (behind .result) (front .last .1 .0) (front .last .1 .1 .0) (front .last .1 .1 .1 .0)
@@ -41,7 +41,7 @@ returns-2 c =
     let file = now (c .before .before .before .before .before .before .before .before .before .before .before .before .before .before .args .file) in
     let front = c .before .before .before .before .before .before .before .before .read-pieces in
     let behind = c .before .before .before .before .read-links in
-    let item = c .before .before .before .item-at in
+    let item = c .before .before .before .item in
     record {
       says =
           refuses file (front .result) (behind .result) (front .last .1 .0) (front .last .1 .1 .0) (front .last .1 .1 .1 .0)
@@ -58,8 +58,8 @@ read-job-spec =
     (tie.spec
     read-pieces-requires
     read-links-requires
-    add-item-at
-    item-at-requires
+    add-item
+    item-requires
     enum-known-refusal
     returns
     returns-2)

@@ -33,11 +33,11 @@ loop-holds c =
       start .pre .1,
     )
 
-add-item-at : tie.Need-add-item-at Inv-loop μ-loop
-add-item-at c = omega arith
+add-item : tie.Need-add-item Inv-loop μ-loop
+add-item c = omega arith
 
-item-at-requires : tie.Need-item-at-requires Inv-loop μ-loop
-item-at-requires c κs = search needs
+item-requires : tie.Need-item-requires Inv-loop μ-loop
+item-requires c κs = search needs
 
 enum-known-l : tie.Need-enum-known-l Inv-loop μ-loop
 enum-known-l c = search needs
@@ -61,7 +61,7 @@ returns c =
       onward = at .inv .0 .onward;
       sizes = at .inv .0 .sizes;
       last = λ P size l h.
-          no-tie (c .before .item-at .result) (c .match .keys2) l (c .before .item-at .ensures (jobOf P L) size long ∙ h);
+          no-tie (c .before .item .result) (c .match .keys2) l (c .before .item .ensures (jobOf P L) size long ∙ h);
     }
 
 -- The record that a turn takes in is the next link, behind any so many pieces.
@@ -75,7 +75,7 @@ read c P long =
     let at = c .before .before .before .before .loop in
     let L = linksIn (at .m) (at .befores) (at .afters) (at .handovers) in
     sym
-    (c .before .before .before .item-at .ensures (jobOf P L) long
+    (c .before .before .before .item .ensures (jobOf P L) long
     (links-length (at .m) (at .befores) (at .afters) (at .handovers)))
     ∙ c .before .l .given .1
 
@@ -124,8 +124,8 @@ read-links-spec =
     Inv-loop
     μ-loop
     loop-holds
-    add-item-at
-    item-at-requires
+    add-item
+    item-requires
     enum-known-l
     same-length
     same-length-2

@@ -16,7 +16,7 @@ use Rattle.reader.proofs.read_pieces.Statement.{statement}
 use Rattle.reader.proofs.read_pieces.Tie as tie
 use Rattle.reader.proofs.read_pieces.Reads as reads
 use Rattle.reader.proofs.read_pieces.Lts as lts
-use Rattle.cursor.proofs.items.item_at.Reads as item-at-reads
+use Rattle.cursor.proofs.items.item_at.Reads as item-reads
 
 abbrev Inv-loop : tie.InvT-loop
 Inv-loop file desks₀ durations₀ releases₀ dues₀ n₀ desks durations releases dues n =
@@ -35,8 +35,8 @@ loop-holds c =
     )
 
 -- src/lib.rt:32:29
-item-at-requires : tie.Need-item-at-requires Inv-loop μ-loop
-item-at-requires c κs = search needs
+item-requires : tie.Need-item-requires Inv-loop μ-loop
+item-requires c κs = search needs
 
 -- src/lib.rt:32:24
 enum-known-p : tie.Need-enum-known-p Inv-loop μ-loop
@@ -68,7 +68,7 @@ returns c =
       few = at .inv .0 .few;
       onward = at .inv .0 .onward;
       sizes = at .inv .0 .sizes;
-      last = λ p h. no-work (c .before .item-at .result) (c .match .keys2) p (c .before .item-at .ensures J long refl ∙ h);
+      last = λ p h. no-work (c .before .item .result) (c .match .keys2) p (c .before .item .ensures J long refl ∙ h);
     }
 
 -- src/lib.rt:35:9
@@ -81,7 +81,7 @@ read : (c : tie.After-known-told Inv-loop μ-loop) →
 read c =
     let at = c .before .before .before .before .loop in
     let J = jobOf (piecesIn (at .n) (at .desks) (at .durations) (at .releases) (at .dues)) [] in
-    sym (c .before .before .before .item-at .ensures J (pieces-length (at .n) (at .desks) (at .durations) (at .releases) (at .dues)) refl)
+    sym (c .before .before .before .item .ensures J (pieces-length (at .n) (at .desks) (at .durations) (at .releases) (at .dues)) refl)
     ∙ c .before .p .given .1
 
 room : (c : tie.After-known-told Inv-loop μ-loop) → c .before .before .before .before .loop .n < 256
@@ -141,7 +141,7 @@ read-pieces-spec =
     Inv-loop
     μ-loop
     loop-holds
-    item-at-requires
+    item-requires
     enum-known-p
     same-length
     same-length-2
