@@ -18,8 +18,8 @@ use Rattle.rules.specs.declared.Link.{Link}
 use Rattle.rules.specs.declared.Refusal.{Refusal}
 use Rattle.rules.specs.declared.Item.{Item}
 use Rattle.rules.specs.declared.Item.the-variants.{Work, Tie, Stop, Done}
-use Rattle.cursor.specs.Says.{judgedAs}
-use Rattle.cursor.proofs.Tests.{by-test, not-both}
+use Rattle.judge.proofs.InTurn.{both}
+use Rattle.judge.proofs.Tests.{by-test, not-both}
 use Rattle.cursor.proofs.Judged.{judged-as, item-record, item-end}
 
 -- A record without a fault, of a kind.
@@ -28,12 +28,6 @@ pub record Clean (kind : Kind) (J : Job) (r : List ℕ) : Type 0 where
   pub order : orderFault kind J ≡ 0
   pub values : valueFault kind J r ≡ 0
   pub zeros : zeroFault kind r ≡ 0
-
--- Two judgements without a fault: neither has one.
-both : (a b : ℕ) → firstFault a b ≡ 0 → (a ≡ 0) × (b ≡ 0)
-unfolding firstFault
-both zero b h = (refl, h)
-both (suc a) b h = absurd (omega arith)
 
 -- An answer that holds a record, and is neither a refusal nor the end.
 abbrev holds : Item → Bool

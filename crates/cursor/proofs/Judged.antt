@@ -10,17 +10,8 @@ use Rattle.rules.specs.Reading.{firstFault, kindFault, orderFault, valueFault, 
 use Rattle.rules.specs.Reading.{unlessFault, contents, judged, atEnd, itemAt}
 use Rattle.rules.specs.declared.Item.{Item}
 use Rattle.rules.specs.declared.Item.the-variants.{Stop}
-use Rattle.cursor.specs.Says.{judgedAs}
-
--- The first judgement decides where it finds a fault, and the later ones where it finds none.
-pub first-fault : (n later : ℕ) → (n ≡ 0 → ⊥) → firstFault n later ≡ n
-unfolding firstFault
-first-fault zero later h = absurd (h refl)
-first-fault (suc n) later h = refl
-
-pub later-fault : (n later : ℕ) → n ≡ 0 → firstFault n later ≡ later
-unfolding firstFault
-later-fault n later h = rw h
+use Rattle.judge.proofs.InTurn.{later-fault}
+use Rattle.cursor.specs.JudgedAs.{judgedAs}
 
 -- A fault is the refusal of the record; without one the record says what it holds.
 pub stops : (n k : ℕ) (item : Item) → (n ≡ 0 → ⊥) → unlessFault n k item ≡ Stop (record { number = n; place = k })
@@ -61,15 +52,15 @@ pub judged-unknown : (J : Job) (k : ℕ) (r : List ℕ) → (byteAt r 0 ≡ 1 �
 unfolding recordFault unlessFault
 judged-unknown J k r h1 h2 = judged-as unknown J k r (kind-unknown (byteAt r 0) h1 h2)
 
--- The judgements of a record of a known kind, one after the other: what the parts of the code answer is what it says.
-pub in-turn : (kind : Kind) (J : Job) (k : ℕ) (r : List ℕ) {order value zeros later fault : ℕ} {item i : Item} →
-    kindFault kind ≡ 0 → order ≡ orderFault kind J → value ≡ valueFault kind J r → zeros ≡ zeroFault kind r →
-    later ≡ firstFault value zeros → fault ≡ firstFault order later → item ≡ contents kind r →
-    i ≡ unlessFault fault k item → i ≡ judgedAs kind k r J
+-- The judgements of a record of a known kind in turn: what the parts of the code answer is what the record is judged.
+pub judged-in-turn : (kind : Kind) (J : Job) (k : ℕ) (r : List ℕ) {order values zeros fault : ℕ} {item i : Item} →
+    kindFault kind ≡ 0 → order ≡ orderFault kind J → values ≡ valueFault kind J r → zeros ≡ zeroFault kind r →
+    fault ≡ firstFault order (firstFault values zeros) → item ≡ contents kind r → i ≡ unlessFault fault k item →
+    i ≡ judgedAs kind k r J
 unfolding recordFault
-in-turn kind J k r known o v z l f it e =
+judged-in-turn kind J k r known o v z f it e =
     e ∙ ap₂ (λ n x. unlessFault n k x)
-    (f ∙ ap₂ firstFault o (l ∙ ap₂ firstFault v z) ∙ sym (later-fault (kindFault kind) _ known)) it
+    (f ∙ ap₂ firstFault o (ap₂ firstFault v z) ∙ sym (later-fault (kindFault kind) _ known)) it
 
 -- Record k is judged where it stands in the file; behind the last record comes the end.
 pub item-record : (s : List ℕ) (k : ℕ) (J : Job) → k < wholeRecords s → itemAt s k J ≡ judged J k (recordAt s k)

@@ -1,20 +1,21 @@
 // The reader's answer for one record: what it says, or its refusal, or that the file is at its end.
-use crate::faults::first_fault;
-use crate::faults::link_fault;
-use crate::faults::link_order_fault;
-use crate::faults::link_zero_fault;
-use crate::faults::piece_fault;
-use crate::faults::piece_order_fault;
-use crate::faults::piece_zero_fault;
-use crate::fields::link_of;
-use crate::fields::piece_of;
+use judge::faults::in_turn;
+use judge::faults::link_fault;
+use judge::faults::link_order_fault;
+use judge::faults::link_zero_fault;
+use judge::faults::piece_fault;
+use judge::faults::piece_order_fault;
+use judge::faults::piece_zero_fault;
+use judge::fields::link_of;
+use judge::fields::piece_of;
 use rules::Item;
 use rules::Refusal;
 ghost use mathlib.Core.Path.{_≡_};
 ghost use lib.ListN.{length};
 ghost use Rattle.rules.specs.File.{ofPiece, ofLink};
 ghost use Rattle.rules.specs.Reading.{unlessFault, judged, itemAt};
-ghost use Rattle.cursor.specs.Says.{Says, judgedAs};
+ghost use Rattle.judge.specs.Says.{Says};
+ghost use Rattle.cursor.specs.JudgedAs.{judgedAs};
 
 // The refusal of record k, or its contents where no judgement found a fault.
 fn unless_fault(fault: u8, k: u64, item: Item) -> Item
@@ -35,9 +36,10 @@ fn piece_item(r: &[u8], k: u64, pieces: usize, links: usize) -> Item
     ensures { λ i. ⌜ Says pieces links i (judgedAs ofPiece k (now (r .entry))) ⌝ }
 {
     let p = piece_of(r);
-    let later = first_fault(piece_fault(p), piece_zero_fault(r));
-    let fault = first_fault(piece_order_fault(pieces, links), later);
-    unless_fault(fault, k, Item::Work(p))
+    let order = piece_order_fault(pieces, links);
+    let values = piece_fault(p);
+    let zeros = piece_zero_fault(r);
+    unless_fault(in_turn(order, values, zeros), k, Item::Work(p))
 }
 
 // Record k as a link.
@@ -46,9 +48,10 @@ fn link_item(r: &[u8], k: u64, pieces: usize, links: usize) -> Item
     ensures { λ i. ⌜ Says pieces links i (judgedAs ofLink k (now (r .entry))) ⌝ }
 {
     let l = link_of(r);
-    let later = first_fault(link_fault(pieces, l), link_zero_fault(r));
-    let fault = first_fault(link_order_fault(pieces, links), later);
-    unless_fault(fault, k, Item::Tie(l))
+    let order = link_order_fault(pieces, links);
+    let values = link_fault(pieces, l);
+    let zeros = link_zero_fault(r);
+    unless_fault(in_turn(order, values, zeros), k, Item::Tie(l))
 }
 
 // Record k, its bytes r, with so many pieces and links read before it.

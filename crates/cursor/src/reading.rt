@@ -4,7 +4,7 @@ use crate::items::item_at;
 use rules::Item;
 ghost use mathlib.Core.Path.{_≡_};
 ghost use Rattle.rules.specs.Reading.{itemAt};
-ghost use Rattle.cursor.specs.Says.{Says};
+ghost use Rattle.judge.specs.Says.{Says};
 
 // The lent file, and how many of its records are behind.
 pub struct Reader<'a> {

@@ -16,8 +16,8 @@ use Rattle.rules.specs.declared.Piece.{Piece}
 use Rattle.rules.specs.declared.Link.{Link}
 use Rattle.rules.specs.declared.Item.{Item}
 use Rattle.rules.specs.declared.Item.the-variants.{Work, Tie, Stop, Done}
-use Rattle.cursor.proofs.Tests.{by-test}
-use Rattle.cursor.proofs.Fits.{FitPiece, FitLink, piece-order, link-order, piece-fits, link-fits}
+use Rattle.judge.proofs.Tests.{by-test}
+use Rattle.judge.proofs.Fits.{FitPiece, FitLink, piece-order, link-order, piece-fits, link-fits}
 use Rattle.cursor.proofs.Clean.{piece-stands, link-stands}
 use Rattle.reader.proofs.Tables.{piece-count, link-count, piece-at, link-at}
 

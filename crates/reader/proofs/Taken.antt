@@ -12,7 +12,7 @@ use Rattle.rules.specs.Tables.{piecesIn, linksIn}
 use Rattle.rules.specs.declared.Piece.{Piece}
 use Rattle.rules.specs.declared.Link.{Link}
 use Rattle.rules.specs.declared.Item.the-variants.{Work, Tie}
-use Rattle.cursor.proofs.Fits.{piece-order, link-order}
+use Rattle.judge.proofs.Fits.{piece-order, link-order}
 use Rattle.cursor.proofs.Clean.{piece-stands, link-stands}
 use Rattle.reader.specs.Rest.{rest, jobOf}
 use Rattle.reader.specs.Sizes.{PieceTables, LinkTables}

@@ -15,9 +15,9 @@ use Rattle.rules.specs.declared.Piece.{Piece}
 use Rattle.rules.specs.declared.Refusal.{Refusal}
 use Rattle.rules.specs.declared.Item.{Item}
 use Rattle.rules.specs.declared.Item.the-variants.{Work, Tie, Stop, Done}
-use Rattle.cursor.proofs.Fits.{piece-order}
+use Rattle.judge.proofs.Fits.{piece-order}
 use Rattle.cursor.proofs.Clean.{piece-stands}
-use Rattle.cursor.specs.Says.{Says}
+use Rattle.judge.specs.Says.{Says}
 use Rattle.reader.specs.Rest.{rest, jobOf, PiecesRead, LinksRead}
 use Rattle.reader.proofs.Answers.{at-end}
 use Rattle.reader.proofs.Rest.{on-stop, on-done}

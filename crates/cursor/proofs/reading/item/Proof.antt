@@ -43,7 +43,7 @@ use Rattle.rules.specs.Reading.{itemAt}
 use Rattle.rules.specs.declared.Item.{Item}
 use Rattle.rules.proofs.Item as I
 use Rattle.rules.proofs.Item.Laws as I′
-use Rattle.cursor.specs.Says.{Says}
+use Rattle.judge.specs.Says.{Says}
 use Rattle.cursor.specs.declared.reading.Reader.{Reader}
 use Rattle.cursor.proofs.Held.{B, sliceOf, OwnFile, OwnReader}
 use Rattle.cursor.proofs.reading.Reader as T

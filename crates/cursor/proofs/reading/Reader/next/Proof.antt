@@ -44,7 +44,7 @@ use Rattle.rules.specs.Reading.{itemAt}
 use Rattle.rules.specs.declared.Item.{Item}
 use Rattle.rules.proofs.Item as I
 use Rattle.rules.proofs.Item.Laws as I′
-use Rattle.cursor.specs.Says.{Says}
+use Rattle.judge.specs.Says.{Says}
 use Rattle.cursor.specs.declared.reading.Reader.{Reader}
 use Rattle.cursor.proofs.Held.{life, B, D, L, sliceOf, machine, fields, OwnReader}
 use Rattle.cursor.proofs.reading.Reader.Laws as T′
