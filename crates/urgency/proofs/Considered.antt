@@ -1,0 +1,51 @@
+-- One piece looked at, by the ways the code takes: it is finished, it waits for a piece, it is to be ready later, or it is
+-- ready and is put up for its desk.
+use Prim.Native.Nat.{ℕ, _+_, _≤_, _<_, min}
+use mathlib.Core.List.{List}
+use mathlib.Core.Path.{_≡_, refl, sym}
+use native.Mathlib.Omega.{arith}
+use borrow.Author.Tests.{lt-ltb, le-ltb, le-leb, lt-leb, eq-eqb, ne-eqb}
+use lib.Dec.{ltb}
+use lib.ListN.{getD}
+use Rattle.rules.specs.Words.{when}
+use Rattle.laws.proofs.Words.{by-test}
+use Rattle.urgency.specs.Choice.{View, offered, isDue, consideredBy, momentWith, endWith}
+
+module _ (v : View) (i : ℕ) (C : List ℕ) (next : ℕ) where
+  -- What becomes of the choice and of the next moment.
+  abbrev pub Becomes : List ℕ → ℕ → Type 0
+  Becomes D m = (D ≡ consideredBy v i C) × (m ≡ momentWith v i next)
+
+  pub is-finished : getD (v .left) i 0 ≡ 0 → Becomes C next
+  unfolding consideredBy momentWith isDue when
+  is-finished h = let e = le-ltb 0 (getD (v .left) i 0) (omega arith) in (rw e, rw e)
+
+  pub waits-yet : 0 < getD (v .waits) i 0 → Becomes C next
+  unfolding consideredBy momentWith isDue when
+  waits-yet h =
+      let e = ne-eqb (getD (v .waits) i 0) 0 (λ (z : getD (v .waits) i 0 ≡ 0). omega arith) in
+      by-test (ltb 0 (getD (v .left) i 0)) (λ a. (rw (a, e), rw (a, e))) (λ a. (rw a, rw a))
+
+  pub ready-later : (getD (v .left) i 0 ≡ 0 → ⊥) → getD (v .waits) i 0 ≤ 0 → v .moment < getD (v .ready) i 0
+    → Becomes C (min next (getD (v .ready) i 0))
+  unfolding consideredBy momentWith isDue when
+  ready-later h k l =
+      let a = lt-ltb 0 (getD (v .left) i 0) (omega arith) in
+      let b = eq-eqb (getD (v .waits) i 0) 0 (omega arith) in
+      (rw (a, b, lt-leb (getD (v .ready) i 0) (v .moment) l), rw (a, b, lt-ltb (v .moment) (getD (v .ready) i 0) l))
+
+  pub ready-now : (getD (v .left) i 0 ≡ 0 → ⊥) → getD (v .waits) i 0 ≤ 0 → getD (v .ready) i 0 ≤ v .moment
+    → Becomes (offered (v .latests) i (getD (v .desks) i 0) C) next
+  unfolding consideredBy momentWith isDue when
+  ready-now h k l =
+      let a = lt-ltb 0 (getD (v .left) i 0) (omega arith) in
+      let b = eq-eqb (getD (v .waits) i 0) 0 (omega arith) in
+      (rw (a, b, le-leb (getD (v .ready) i 0) (v .moment) l), rw (a, b, le-ltb (v .moment) (getD (v .ready) i 0) l))
+
+pub end-counts : (t : ℕ) (left : List ℕ) (x next : ℕ) → x < 256 → min next (t + getD left x 0) ≡ endWith t left x next
+unfolding endWith when
+end-counts t left x next h = rw (lt-ltb x 256 h)
+
+pub nobody-ends : (t : ℕ) (left : List ℕ) (x next : ℕ) → 256 ≤ x → next ≡ endWith t left x next
+unfolding endWith when
+nobody-ends t left x next h = rw (le-ltb x 256 h)

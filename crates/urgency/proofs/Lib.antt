@@ -1,0 +1,7 @@
+-- How the tables' definitions go on by one piece, desk or link, and what they say of the plan.
+pub mod Turns
+pub mod Considered
+pub mod Worked
+pub mod Noted
+pub mod Chains
+pub mod Passed

@@ -1,0 +1,52 @@
+use borrow.Author.Needs.{needs}
+use borrow.Author.Tests.{le-ltb, lt-ltb}
+use lib.IntN.{pos}
+use lib.ListN.{getD}
+use mir.Syntax.{w32}
+use mir.ValLaws.{toZ-ofZ}
+use Rattle.urgency.specs.Choice.{goesFirst}
+use Rattle.urgency.proofs.choice.goes_first.Statement.{statement}
+use Rattle.urgency.proofs.choice.goes_first.Tie as tie
+use Rattle.urgency.proofs.choice.goes_first.Reads as reads
+use Rattle.urgency.proofs.choice.goes_first.Lts as lts
+
+-- src/choice.rt:21:16
+mul-result : tie.Need-mul-result
+mul-result c = search needs
+
+-- src/choice.rt:21:16
+element-copy-out-result : tie.Need-element-copy-out-result
+element-copy-out-result c = search needs
+
+-- src/choice.rt:21:29
+mul-result-2 : tie.Need-mul-result-2
+mul-result-2 c = search needs
+
+-- src/choice.rt:21:29
+element-copy-out-result-2 : tie.Need-element-copy-out-result-2
+element-copy-out-result-2 c = search needs
+
+-- src/choice.rt:21:9
+returns : tie.Need-returns
+unfolding goesFirst
+returns c =
+    let a = c .before .before .before .args in
+    simp (toZ-ofZ w32 (getD (a .latests .now) (a .i) (pos 0)) (record { sfits = c .before .result .given }),
+      toZ-ofZ w32 (getD (a .latests .now) (a .so-far) (pos 0)) (record { sfits = c .result2 .given }),
+      lt-ltb (a .so-far) 256 (c .before .before .if1 .taken))
+
+-- src/choice.rt:16:1
+returns-2 : tie.Need-returns-2
+unfolding goesFirst
+returns-2 c = simp (le-ltb (c .before .args .so-far) 256 (c .if1 .left))
+
+pub goes-first-spec : {M : Type 1} → statement M
+goes-first-spec =
+    tie.close
+    (tie.spec
+    mul-result
+    element-copy-out-result
+    mul-result-2
+    element-copy-out-result-2
+    returns
+    returns-2)
