@@ -21,7 +21,8 @@ use Rattle.rules.specs.Runs.{Run, runsFrom, turns, runs}
 use Rattle.rules.specs.Entries.{raised}
 use Rattle.rules.specs.Bytes.{resultRecord, runRecord}
 use Rattle.rules.specs.Plan.{deskRunRecords, runRecords, resultRecords, planBytes, planNumbers}
-use Rattle.laws.proofs.Words.{by-test, mem-below, length-below, sum-le, sum-same, sum-plus, map-same, map-twice, length-joined, mem-of-map, mem-of-joined, on-tail}
+use Rattle.laws.proofs.Words.{by-test, mem-below, length-below, sum-le, sum-same, map-same, on-tail}
+use Rattle.laws.proofs.Joined.{sum-plus, map-twice, length-joined, mem-of-map, mem-of-joined}
 use Rattle.laws.proofs.Sound.{fits}
 use Rattle.laws.proofs.Hours.{always-open}
 use Rattle.laws.proofs.Slots.{mem-deskPieces, deskPieces-mem, worked-chosen}
