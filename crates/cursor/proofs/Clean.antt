@@ -1,5 +1,5 @@
--- What it takes for a record to be read: where the reader's answer for record k is a piece or a link, the record stands in
--- the file, no judgement found a fault in it, and the answer is what its bytes say.
+-- What it takes for a record to be read: where the reader's answer for record k is a piece or a link, the record
+-- stands in the file, no judgement found a fault in it, and the answer is what its bytes say.
 use Prim.Native.Nat.{ℕ, zero, suc, _<_, _%_}
 use mathlib.Core.Bool.{Bool, true, false}
 use mathlib.Core.List.{List}

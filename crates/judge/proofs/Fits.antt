@@ -1,5 +1,5 @@
--- The judgements of values and of order, read the other way: what holds of a piece, of a link and of what was read before
--- them where the judgement found no fault.
+-- The judgements of values and of order, read the other way: what holds of a piece, of a link and of what was read
+-- before them where the judgement found no fault.
 use Prim.Native.Nat.{ℕ, _≤_, _<_}
 use mathlib.Core.Bool.{_||_}
 use mathlib.Core.Path.{_≡_, ap, _∙_}

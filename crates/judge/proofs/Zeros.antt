@@ -1,5 +1,5 @@
--- Bytes that must be zero, judged by the number in four of them: the number is zero exactly if each byte is. So a record's
--- zero bytes are judged a word at a time, at whatever place the words stand.
+-- Bytes that must be zero, judged by the number in four of them: the number is zero exactly if each byte is. So a
+-- record's zero bytes are judged a word at a time, at whatever place the words stand.
 use Prim.Native.Nat.{ℕ, _+_, _*_}
 use mathlib.Core.Bool.{Bool, true, false, not, _||_}
 use mathlib.Core.List.{List}

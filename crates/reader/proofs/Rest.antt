@@ -1,5 +1,5 @@
--- The rest of a reading, record by record: a piece or a link is taken into the job and the reading goes on, a refusal and
--- the end of the file end it.
+-- The rest of a reading, record by record: a piece or a link is taken into the job and the reading goes on, a refusal
+-- and the end of the file end it.
 use Prim.Native.Nat.{ℕ, zero, suc, _+_, _-_, _≤_, _<_, _%_}
 use mathlib.Core.Bool.{Bool, true, false}
 use mathlib.Core.List.{List, []}

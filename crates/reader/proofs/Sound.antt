@@ -1,5 +1,5 @@
--- Every job that was read is sound: at most 256 pieces and 1,024 links, and no value fault in them. By induction over the
--- records still to come; and the same as statements on the tables.
+-- Every job that was read is sound: at most 256 pieces and 1,024 links, and no value fault in them. By induction over
+-- the records still to come; and the same as statements on the tables.
 use Prim.Native.Nat.{ℕ, zero, suc, _+_, _≤_, _<_}
 use mathlib.Core.List.{List, [], _∷_, _++_}
 use mathlib.Core.Path.{_≡_, refl, sym, ap, ap₂, subst, _∙_}
@@ -83,7 +83,8 @@ unfolding readFrom
 sound-from s zero k J K sound h =
     sound-on s k J K sound accepted (λ G g e. subst Sound (same-job e) g) (itemAt s k J) refl h
 sound-from s (suc left) k J K sound h =
-    sound-on s k J K sound (λ G. readFrom s left (k + 1) G) (λ G g e. sound-from s left (k + 1) G K g e) (itemAt s k J) refl h
+    sound-on s k J K sound (λ G. readFrom s left (k + 1) G) (λ G g e. sound-from s left (k + 1) G K g e)
+    (itemAt s k J) refl h
 
 pub read-sound : (s : List ℕ) (J : Job) → readJob s ≡ accepted J → Sound J
 unfolding readJob

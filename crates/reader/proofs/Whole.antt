@@ -1,5 +1,5 @@
--- The two loops put together: with the pieces and then the links in the tables, the next answer is neither a piece nor a
--- link, and so it is the outcome of the whole file.
+-- The two loops put together: with the pieces and then the links in the tables, the next answer is neither a piece
+-- nor a link, and so it is the outcome of the whole file.
 use Prim.Native.Nat.{ℕ, zero, suc, _+_}
 use mathlib.Core.List.{List, [], _∷_}
 use mathlib.Core.Path.{_≡_, refl, sym, ap, _∙_}
@@ -23,7 +23,7 @@ use Rattle.reader.proofs.Answers.{at-end}
 use Rattle.reader.proofs.Rest.{on-stop, on-done}
 use Rattle.reader.proofs.Taken.{pieces-length, links-length}
 
-module _ (s : List ℕ) (n m : ℕ) (desks durations releases dues befores afters handovers : List ℕ)
+module _ {s : List ℕ} {n m : ℕ} {desks durations releases dues befores afters handovers : List ℕ}
     (front : PiecesRead s n desks durations releases dues) (behind : LinksRead s n m befores afters handovers) where
   abbrev P : List Piece
   P = piecesIn n desks durations releases dues

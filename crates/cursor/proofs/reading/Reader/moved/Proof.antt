@@ -1,6 +1,6 @@
--- `Reader::moved` meets its contract, by a walk of its code: a reader is made anew of the file that the one passed holds,
--- and of another place. What the reader owns is had twice: one copy stays whole for the exit, and the other, with the
--- facts of the new place for those of the old, is what the result owns.
+-- `Reader::moved` meets its contract, by a walk of its code: a reader is made anew of the file that the one passed
+-- holds, and of another place. What the reader owns is had twice: one copy stays whole for the exit, and the other,
+-- with the facts of the new place for those of the old, is what the result owns.
 use mathlib.Core.Path.{refl}
 use Prim.Native.Nat.{ℕ, _<_, _^_}
 use mathlib.Core.List.{[], _∷_}
