@@ -1,7 +1,7 @@
 -- The four answers of the reader of one record, told apart by what a `let .. else` leaves: where the answer is not
 -- the one that was asked for, it is one of the other three.
 use Prim.Native.Nat.{ℕ}
-use mathlib.Core.List.{List, [], _∷_}
+use mathlib.Core.List.{[], _∷_}
 use mathlib.Core.Logic.{⊎-elim}
 use mathlib.Core.Path.{_≡_, refl, ap}
 use native.Mathlib.Omega.{arith}

@@ -7,3 +7,5 @@ pub mod Taken
 pub mod Answers
 pub mod Whole
 pub mod Sound
+pub mod Deciding
+pub mod Refusals

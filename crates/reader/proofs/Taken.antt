@@ -2,10 +2,9 @@
 -- read, and they have room for a record that is read.
 use Prim.Native.Nat.{ℕ, _+_, _≤_, _<_}
 use mathlib.Core.List.{List, [], _∷_, _++_}
-use mathlib.Core.Path.{_≡_, refl, sym, ap, _∙_}
+use mathlib.Core.Path.{_≡_, sym, ap, _∙_}
 use native.Mathlib.Omega.{arith}
 use lib.ListN.{length, set, replicate, length-set, length-replicate}
-use Rattle.rules.specs.File.{ofPiece, ofLink}
 use Rattle.rules.specs.Job.{Job, noPiece}
 use Rattle.rules.specs.Reading.{itemAt, readJob}
 use Rattle.rules.specs.Tables.{piecesIn, linksIn}

@@ -1,12 +1,11 @@
 -- `reader::read_pieces` meets its contract: each turn takes in one piece, by the laws of `Taken`, and the answer that
 -- ends the loop is no piece.
-use Prim.Native.Nat.{_≤_, _<_, _-_}
+use Prim.Native.Nat.{_<_, _-_}
 use borrow.Author.Needs.{needs}
 use denote.Ref.{now}
 use mathlib.Core.List.{[]}
 use mathlib.Core.Path.{_≡_, refl, sym, _∙_}
 use native.Mathlib.Omega.{arith}
-use lib.ListN.{length}
 use Rattle.rules.specs.Reading.{itemAt}
 use Rattle.rules.specs.Tables.{piecesIn}
 use Rattle.rules.specs.declared.Item.the-variants.{Work}

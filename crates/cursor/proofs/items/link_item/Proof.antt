@@ -32,7 +32,7 @@ unfolding contents kindFault valueFault
 returns c J n m =
     let a = c .before .before .before .before .before .before .before .args in
     let fields = c .before .before .before .before .before .link-of .ensures in
-    let order = c .before .before .before .before .link-order-fault .ensures J n m in
+    let order = c .before .before .before .before .link-order-fault .ensures J m in
     let values = c .before .before .before .link-fault .ensures ∙ ap₂ linkFault (sym n) fields in
     let zeros = c .before .before .link-zero-fault .ensures in
     judged-in-turn ofLink J (a .k) (now (a .r)) refl order values zeros (c .before .in-turn .ensures) (ap Tie fields)
