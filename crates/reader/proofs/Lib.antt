@@ -9,3 +9,4 @@ pub mod Whole
 pub mod Sound
 pub mod Deciding
 pub mod Refusals
+pub mod Callers
