@@ -1,21 +1,19 @@
--- What it takes for a record to be read: where the reader's answer for record k is a piece or a link, the record stands in
--- the file, no judgement found a fault in it, and the answer is what its bytes say.
+-- What it takes for a record to be read: where the reader's answer for record k is a piece or a link, the record
+-- stands in the file, no judgement found a fault in it, and the answer is what its bytes say.
 use Prim.Native.Nat.{ℕ, zero, suc, _<_, _%_}
 use mathlib.Core.Bool.{Bool, true, false}
 use mathlib.Core.List.{List}
 use mathlib.Core.Path.{_≡_, refl, sym, ap, _∙_}
-use native.Mathlib.Omega.{arith}
 use lib.Dec.{ltb, eqb}
 use lib.ListN.{length}
 use borrow.Author.Tests.{ltb-true, ltb-false}
 use Rattle.rules.specs.Words.{when}
 use Rattle.rules.specs.File.{byteAt, wholeRecords, recordAt, Kind, ofPiece, ofLink, unknown, kindOf, asPiece, asLink}
-use Rattle.rules.specs.Job.{Job, pieceCount}
-use Rattle.rules.specs.Reading.{firstFault, orderFault, valueFault, zeroFault, pieceFault, linkFault}
+use Rattle.rules.specs.Job.{Job}
+use Rattle.rules.specs.Reading.{orderFault, valueFault, zeroFault}
 use Rattle.rules.specs.Reading.{kindFault, recordFault, contents, unlessFault, judged, atEnd, itemAt}
 use Rattle.rules.specs.declared.Piece.{Piece}
 use Rattle.rules.specs.declared.Link.{Link}
-use Rattle.rules.specs.declared.Refusal.{Refusal}
 use Rattle.rules.specs.declared.Item.{Item}
 use Rattle.rules.specs.declared.Item.the-variants.{Work, Tie, Stop, Done}
 use Rattle.judge.proofs.InTurn.{both}

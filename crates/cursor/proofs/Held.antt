@@ -1,6 +1,6 @@
--- The struct `Reader` as the walks of its functions see it: its type over the one lifetime of a signature, its fields'
--- values, and what it owns. It holds a `&` and a number, so it can be copied: a walk keeps one copy for its exit and
--- spends the other.
+-- The struct `Reader` as the walks of its functions see it: its type over the one lifetime of a signature, its
+-- fields' values, and what it owns. It holds a `&` and a number, so it can be copied: a walk keeps one copy for its
+-- exit and spends the other.
 use mathlib.Core.List.{List, [], _∷_}
 use Prim.Native.Nat.{ℕ}
 use lib.ListN.{length}

@@ -1,5 +1,5 @@
--- The judgement of one record, law by law: a fault ends it and no fault lets it pass, a record is judged by its kind, and
--- every kind byte but 1 and 2 is unknown.
+-- The judgement of one record, law by law: a fault ends it and no fault lets it pass, a record is judged by its kind,
+-- and every kind byte but 1 and 2 is unknown.
 use Prim.Native.Nat.{ℕ, zero, suc, _≤_, _<_}
 use mathlib.Core.List.{List}
 use mathlib.Core.Path.{_≡_, refl, ap, ap₂, sym, _∙_}

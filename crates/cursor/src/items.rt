@@ -48,7 +48,7 @@ fn link_item(r: &[u8], k: u64, pieces: usize, links: usize) -> Item
     ensures { λ i. ⌜ Says pieces links i (judgedAs ofLink k (now (r .entry))) ⌝ }
 {
     let l = link_of(r);
-    let order = link_order_fault(pieces, links);
+    let order = link_order_fault(links);
     let values = link_fault(pieces, l);
     let zeros = link_zero_fault(r);
     unless_fault(in_turn(order, values, zeros), k, Item::Tie(l))

@@ -1,5 +1,6 @@
 // The reader of a job file: it keeps the file and its place in it together, and gives one record or one refusal at a
-// time. Each function over it is thin and leaves the work to `item_at`; callers use `item`, whose parameters are plain.
+// time. Each function over it is thin and leaves the work to `item_at`; callers use `item`, whose parameters are
+// plain.
 use crate::items::item_at;
 use rules::Item;
 ghost use mathlib.Core.Path.{_≡_};

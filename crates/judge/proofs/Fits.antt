@@ -1,8 +1,8 @@
--- The judgements of values and of order, read the other way: what holds of a piece, of a link and of what was read before
--- them where the judgement found no fault.
+-- The judgements of values and of order, read the other way: what holds of a piece, of a link and of what was read
+-- before them where the judgement found no fault.
 use Prim.Native.Nat.{ℕ, _≤_, _<_}
 use mathlib.Core.Bool.{_||_}
-use mathlib.Core.Path.{_≡_, ap, _∙_}
+use mathlib.Core.Path.{_≡_}
 use native.Mathlib.Omega.{arith}
 use lib.Dec.{leb, ltb, eqb}
 use lib.ListN.{length}

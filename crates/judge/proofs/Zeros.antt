@@ -1,12 +1,11 @@
--- Bytes that must be zero, judged by the number in four of them: the number is zero exactly if each byte is. So a record's
--- zero bytes are judged a word at a time, at whatever place the words stand.
+-- Bytes that must be zero, judged by the number in four of them: the number is zero exactly if each byte is. So a
+-- record's zero bytes are judged a word at a time, at whatever place the words stand.
 use Prim.Native.Nat.{ℕ, _+_, _*_}
-use mathlib.Core.Bool.{Bool, true, false, not, _||_}
-use mathlib.Core.List.{List}
-use mathlib.Core.Path.{_≡_, refl}
+use mathlib.Core.Bool.{Bool, true, not, _||_}
+use mathlib.Core.Path.{_≡_}
 use native.Mathlib.Omega.{arith}
 use lib.Dec.{eqb}
-use borrow.Author.Tests.{eq-eqb, ne-eqb, eqb-true, eqb-false}
+use borrow.Author.Tests.{eq-eqb, eqb-true}
 use Rattle.judge.proofs.Tests.{by-test}
 
 -- The number in four bytes is zero where they are.

@@ -5,6 +5,7 @@ use rules::Piece;
 ghost use mathlib.Core.Path.{_≡_};
 ghost use lib.ListN.{length};
 ghost use Rattle.rules.specs.File.{ofPiece, ofLink};
+ghost use Rattle.rules.specs.Job.{Job};
 ghost use Rattle.rules.specs.Reading.{pieceFault, linkFault, zeroFault, orderFault, firstFault};
 ghost use Rattle.judge.specs.Says.{Says};
 
@@ -89,9 +90,9 @@ pub fn piece_order_fault(pieces: usize, links: usize) -> u8
     0
 }
 
-// A link's place in the file: 4.
-pub fn link_order_fault(pieces: usize, links: usize) -> u8
-    ensures { λ n. ⌜ Says pieces links n (orderFault ofLink) ⌝ }
+// A link's place in the file, behind so many links: 4.
+pub fn link_order_fault(links: usize) -> u8
+    ensures { λ n. ⌜ ((J : Job) → length (J .links) ≡ links → n ≡ orderFault ofLink J) ⌝ }
 {
     if 1024 <= links {
         return 4;

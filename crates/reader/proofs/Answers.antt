@@ -1,7 +1,7 @@
--- The four answers of the reader of one record, told apart by what a `let .. else` leaves: where the answer is not the one
--- that was asked for, it is one of the other three.
+-- The four answers of the reader of one record, told apart by what a `let .. else` leaves: where the answer is not
+-- the one that was asked for, it is one of the other three.
 use Prim.Native.Nat.{ℕ}
-use mathlib.Core.List.{List, [], _∷_}
+use mathlib.Core.List.{[], _∷_}
 use mathlib.Core.Logic.{⊎-elim}
 use mathlib.Core.Path.{_≡_, refl, ap}
 use native.Mathlib.Omega.{arith}
@@ -32,8 +32,8 @@ no-tie i k l h =
     none-of 0 2 3 (tag i) (omega arith) (omega arith) (omega arith) k
 
 -- No refusal, no piece and no link: the end.
-pub at-end : (i : Item) → OneOf (0 ∷ 1 ∷ 3 ∷ []) (tag i) → ((p : Piece) → i ≡ Work p → ⊥) → ((l : Link) → i ≡ Tie l → ⊥) →
-    i ≡ Done
+pub at-end : (i : Item) → OneOf (0 ∷ 1 ∷ 3 ∷ []) (tag i) → ((p : Piece) → i ≡ Work p → ⊥) →
+    ((l : Link) → i ≡ Tie l → ⊥) → i ≡ Done
 at-end (Work p) k w t = absurd (w p refl)
 at-end (Tie l) k w t = absurd (t l refl)
 at-end (Stop r) k w t = absurd (none-of 0 1 3 2 (omega arith) (omega arith) (omega arith) k)

@@ -1,9 +1,9 @@
--- Numbers in a row, and what is made of them one by one: how many there are, which stands where, what one more adds, and
--- that a list made of the numbers below n looks at no other number.
-use Prim.Native.Nat.{ℕ, zero, suc, _+_, _≤_, _<_}
+-- Numbers in a row, and what is made of them one by one: how many there are, which stands where, what one more adds,
+-- and that a list made of the numbers below n looks at no other number.
+use Prim.Native.Nat.{ℕ, zero, suc, _+_, _<_}
 use mathlib.Core.Bool.{Bool, true, false, _||_}
 use mathlib.Core.List.{List, [], _∷_, _++_, map, map-append}
-use mathlib.Core.Path.{_≡_, refl, sym, ap, ap₂, _∙_}
+use mathlib.Core.Path.{_≡_, refl, ap, ap₂, _∙_}
 use native.Mathlib.Numerals.{add-one}
 use native.Mathlib.Omega.{arith}
 use lib.ListN.{length, getD, length-map}
@@ -57,7 +57,8 @@ module _ {A : Type 0} where
   made-more f n = ap (map f) (below-more n) ∙ map-append f (below n) (n ∷ [])
 
   -- The members that pass a test, and whether one does, asked of what they were made of.
-  pub keep-made : {B : Type 0} (p : A → Bool) (f : B → A) (xs : List B) → keep p (map f xs) ≡ map f (keep (λ x. p (f x)) xs)
+  pub keep-made : {B : Type 0} (p : A → Bool) (f : B → A) (xs : List B) →
+      keep p (map f xs) ≡ map f (keep (λ x. p (f x)) xs)
   unfolding keep
   keep-made p f [] = refl
   keep-made {B} p f (x ∷ xs) = go (p (f x)) (keep (λ y. p (f y)) xs) (keep-made p f xs)

@@ -1,24 +1,24 @@
--- Every job that was read is sound: at most 256 pieces and 1,024 links, and no value fault in them. By induction over the
--- records still to come; and the same as statements on the tables.
-use Prim.Native.Nat.{ℕ, zero, suc, _+_, _≤_, _<_}
+-- Every job that was read is sound: at most 256 pieces and 1,024 links, and no value fault in them. And the same as
+-- statements on the tables.
+use Prim.Native.Nat.{ℕ, _≤_, _<_}
 use mathlib.Core.List.{List, [], _∷_, _++_}
-use mathlib.Core.Path.{_≡_, refl, sym, ap, ap₂, subst, _∙_}
+use mathlib.Core.Path.{_≡_, sym, ap, ap₂, subst, _∙_}
 use native.Mathlib.Omega.{arith}
 use lib.Dec.{ltb}
 use lib.ListN.{length, getD, length-append, List·getD-append}
 use lib.Seq.{getD-append-seam}
 use borrow.Author.Tests.{ltb-true, ltb-false}
-use Rattle.rules.specs.File.{wholeRecords}
-use Rattle.rules.specs.Job.{Job, Outcome, refused, accepted, emptyJob, withPiece, withLink, pieceCount, noPiece}
-use Rattle.rules.specs.Reading.{pieceFault, linkFault, valueFault, itemAt, andThen, readFrom, readJob}
+use Rattle.rules.specs.Job.{Job, refused, accepted, withPiece, withLink, pieceCount, noPiece}
+use Rattle.rules.specs.Reading.{pieceFault, linkFault, valueFault, itemAt, readJob}
 use Rattle.rules.specs.Tables.{Sound, noLink, pieceIn, linkIn, jobIn}
 use Rattle.rules.specs.declared.Piece.{Piece}
 use Rattle.rules.specs.declared.Link.{Link}
-use Rattle.rules.specs.declared.Item.{Item}
-use Rattle.rules.specs.declared.Item.the-variants.{Work, Tie, Stop, Done}
+use Rattle.rules.specs.declared.Refusal.{Refusal}
+use Rattle.rules.specs.declared.Item.the-variants.{Work, Tie}
 use Rattle.judge.proofs.Tests.{by-test}
 use Rattle.judge.proofs.Fits.{FitPiece, FitLink, piece-order, link-order, piece-fits, link-fits}
 use Rattle.cursor.proofs.Clean.{piece-stands, link-stands}
+use Rattle.reader.proofs.Rest.{every-reading}
 use Rattle.reader.proofs.Tables.{piece-count, link-count, piece-at, link-at}
 
 -- What holds of each member of a list, and of one more, holds of each member of the list with that one behind it.
@@ -61,41 +61,24 @@ module _ (s : List ℕ) (k : ℕ) (J : Job) (sound : Sound J) where
             (ap (linkFault (pieceCount J)) (read .1) ∙ read .0 .clean .values);
       }
 
--- An accepted outcome is that job.
+-- Two outcomes that are jobs are one job, and a refusal is none.
 same-job : {J K : Job} → accepted J ≡ accepted K → J ≡ K
 same-job h = cc
 
--- One answer of the reader, whatever goes on behind it.
-sound-on : (s : List ℕ) (k : ℕ) (J K : Job) → Sound J → (onward : Job → Outcome) →
-    ((G : Job) → Sound G → onward G ≡ accepted K → Sound K) →
-    (i : Item) → itemAt s k J ≡ i → andThen i J onward ≡ accepted K → Sound K
-unfolding andThen
-sound-on s k J K sound onward rest (Work p) e h = rest (withPiece J p) (sound-piece s k J sound p e) h
-sound-on s k J K sound onward rest (Tie l) e h = rest (withLink J l) (sound-link s k J sound l e) h
-sound-on s k J K sound onward rest (Stop r) e h = absurd (not-both h)
-  where
-    not-both : _≡_ {A = Outcome} (refused r) (accepted K) → ⊥
-    not-both q = let z : _≡_ {A = ℕ} 0 1 = cc in omega arith
-sound-on s k J K sound onward rest Done e h = subst Sound (same-job h) sound
-
-sound-from : (s : List ℕ) (left k : ℕ) (J K : Job) → Sound J → readFrom s left k J ≡ accepted K → Sound K
-unfolding readFrom
-sound-from s zero k J K sound h =
-    sound-on s k J K sound accepted (λ G g e. subst Sound (same-job e) g) (itemAt s k J) refl h
-sound-from s (suc left) k J K sound h =
-    sound-on s k J K sound (λ G. readFrom s left (k + 1) G) (λ G g e. sound-from s left (k + 1) G K g e) (itemAt s k J) refl h
+no-job : (r : Refusal) (K : Job) → refused r ≡ accepted K → ⊥
+no-job r K h = let z : _≡_ {A = ℕ} 0 1 = cc in omega arith
 
 pub read-sound : (s : List ℕ) (J : Job) → readJob s ≡ accepted J → Sound J
-unfolding readJob
-read-sound s J h = sound-from s (wholeRecords s) 0 emptyJob J empty h
-  where
-    empty : Sound emptyJob
-    empty = record {
+read-sound s =
+    every-reading s Sound (λ o. (K : Job) → o ≡ accepted K → Sound K)
+    (λ k J p sound e. sound-piece s k J sound p e) (λ k J l sound e. sound-link s k J sound l e)
+    (λ k J r e K h. absurd (no-job r K h)) (λ J sound K h. subst Sound (same-job h) sound)
+    (record {
       few-pieces = omega arith;
       few-links = omega arith;
       pieces-fit = λ i lt. absurd (omega arith);
       links-fit = λ i lt. absurd (omega arith);
-    }
+    })
 
 -- A sound job out of the tables, entry by entry.
 pub record FitTables (n m : ℕ) (desks durations releases dues befores afters handovers : List ℕ) : Type 0 where

@@ -1,8 +1,8 @@
--- A job out of the tables, law by law, so that a station behind the reader speaks of the tables and never of how a job is
--- made of them: the counts, the pieces and links by number, the links of a piece, and that only the first n and m entries
--- count.
+-- A job out of the tables, law by law, so that a station behind the reader speaks of the tables and never of how a
+-- job is made of them: the counts, the pieces and links by number, the links of a piece, and that only the first n
+-- and m entries count.
 use Prim.Native.Nat.{ℕ, _+_, _≤_, _<_}
-use mathlib.Core.Bool.{Bool, _&&_}
+use mathlib.Core.Bool.{_&&_}
 use mathlib.Core.List.{List, [], _∷_, _++_, map}
 use mathlib.Core.Path.{_≡_, refl, ap, ap₂, _∙_}
 use native.Mathlib.Omega.{arith}

@@ -1,12 +1,11 @@
--- The two loops put together: with the pieces and then the links in the tables, the next answer is neither a piece nor a
--- link, and so it is the outcome of the whole file.
-use Prim.Native.Nat.{ℕ, zero, suc, _+_}
+-- The two loops put together: with the pieces and then the links in the tables, the next answer is neither a piece
+-- nor a link, and so it is the outcome of the whole file.
+use Prim.Native.Nat.{ℕ, _+_}
 use mathlib.Core.List.{List, [], _∷_}
-use mathlib.Core.Path.{_≡_, refl, sym, ap, _∙_}
+use mathlib.Core.Path.{_≡_, sym, _∙_}
 use native.Mathlib.Omega.{arith}
 use types.Run.{OneOf}
 use denote.Enum.Declared.{tagOf}
-use lib.ListN.{length}
 use Rattle.rules.proofs.Item.{the-type}
 use Rattle.rules.specs.Job.{Job, refused, accepted}
 use Rattle.rules.specs.Reading.{itemAt, readJob}
@@ -14,7 +13,7 @@ use Rattle.rules.specs.Tables.{piecesIn, linksIn, jobIn}
 use Rattle.rules.specs.declared.Piece.{Piece}
 use Rattle.rules.specs.declared.Refusal.{Refusal}
 use Rattle.rules.specs.declared.Item.{Item}
-use Rattle.rules.specs.declared.Item.the-variants.{Work, Tie, Stop, Done}
+use Rattle.rules.specs.declared.Item.the-variants.{Work, Stop}
 use Rattle.judge.proofs.Fits.{piece-order}
 use Rattle.cursor.proofs.Clean.{piece-stands}
 use Rattle.judge.specs.Says.{Says}
@@ -23,7 +22,7 @@ use Rattle.reader.proofs.Answers.{at-end}
 use Rattle.reader.proofs.Rest.{on-stop, on-done}
 use Rattle.reader.proofs.Taken.{pieces-length, links-length}
 
-module _ (s : List ℕ) (n m : ℕ) (desks durations releases dues befores afters handovers : List ℕ)
+module _ {s : List ℕ} {n m : ℕ} {desks durations releases dues befores afters handovers : List ℕ}
     (front : PiecesRead s n desks durations releases dues) (behind : LinksRead s n m befores afters handovers) where
   abbrev P : List Piece
   P = piecesIn n desks durations releases dues

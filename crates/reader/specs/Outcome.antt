@@ -20,7 +20,8 @@ Few (Job n m) = (n ≤ 256) × (m ≤ 1024)
 Few (Refused r) = Unit
 
 -- The answer and the tables say what the page says of the file.
-pub record ReadsJob (s : List ℕ) (r : Read) (desks durations releases dues befores afters handovers : List ℕ) : Type 0 where
+pub record ReadsJob (s : List ℕ) (r : Read) (desks durations releases dues befores afters handovers : List ℕ)
+    : Type 0 where
   pub says : readJob s ≡ outcomeOf r desks durations releases dues befores afters handovers
   pub few : Few r
   pub piece-tables : PieceTables desks durations releases dues

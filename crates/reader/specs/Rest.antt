@@ -1,5 +1,5 @@
--- The reading of a job file in the midst of it: what is left to do from record k on, with J read before it. The loops go
--- by one saying: the rest from here is the whole.
+-- The reading of a job file in the midst of it: what is left to do from record k on, with J read before it. The loops
+-- go by one saying: the rest from here is the whole.
 use Prim.Native.Nat.{ℕ, _+_, _-_, _≤_}
 use mathlib.Core.List.{List, []}
 use mathlib.Core.Path.{_≡_}

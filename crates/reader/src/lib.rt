@@ -1,5 +1,5 @@
-// A whole job file read into lent tables, or the first refusal met. The pieces stand before the links, so each kind has
-// its own loop; what ends the last of them is the end of the file or the refusal.
+// A whole job file read into lent tables, or the first refusal met. The pieces stand before the links, so each kind
+// has its own loop; what ends the last of them is the end of the file or the refusal.
 use cursor::reading::item;
 use rules::Item;
 use rules::Refusal;
@@ -23,7 +23,9 @@ fn read_pieces(
     dues: &mut [u32],
 ) -> usize
     requires { ⌜ PieceTables (now desks) (now durations) (now releases) (now dues) ⌝ }
-    ensures { λ n. ⌜ PiecesRead (now (file .entry)) n (now (desks .exit)) (now (durations .exit)) (now (releases .exit)) (now (dues .exit)) ⌝ }
+    ensures { λ n.
+        ⌜ PiecesRead (now (file .entry)) n (now (desks .exit)) (now (durations .exit)) (now (releases .exit))
+        (now (dues .exit)) ⌝ }
 {
     let mut n: usize = 0;
     loop {
@@ -48,7 +50,8 @@ fn read_links(
 ) -> usize
     requires { ⌜ pieces ≤ 256 ⌝ }
     requires { ⌜ LinkTables (now befores) (now afters) (now handovers) ⌝ }
-    ensures { λ m. ⌜ LinksRead (now (file .entry)) pieces m (now (befores .exit)) (now (afters .exit)) (now (handovers .exit)) ⌝ }
+    ensures { λ m.
+        ⌜ LinksRead (now (file .entry)) pieces m (now (befores .exit)) (now (afters .exit)) (now (handovers .exit)) ⌝ }
 {
     let mut m: usize = 0;
     loop {
@@ -73,7 +76,9 @@ pub fn read_job(
     afters: &mut [u16; 1024],
     handovers: &mut [u16; 1024],
 ) -> Read
-    ensures { λ r. ⌜ ReadsJob (now (file .entry)) r (now (desks .exit)) (now (durations .exit)) (now (releases .exit)) (now (dues .exit)) (now (befores .exit)) (now (afters .exit)) (now (handovers .exit)) ⌝ }
+    ensures { λ r.
+        ⌜ ReadsJob (now (file .entry)) r (now (desks .exit)) (now (durations .exit)) (now (releases .exit))
+        (now (dues .exit)) (now (befores .exit)) (now (afters .exit)) (now (handovers .exit)) ⌝ }
 {
     let pieces = read_pieces(file, desks, durations, releases, dues);
     let links = read_links(file, pieces, befores, afters, handovers);

@@ -1,5 +1,5 @@
--- `reader::read_job` meets its contract: what ends the second loop is the outcome of the file, by the laws of `Whole`.
-use denote.Ref.{now}
+-- `reader::read_job` meets its contract: what ends the second loop is the outcome of the file, by the laws of
+-- `Whole`.
 use Rattle.reader.proofs.Whole.{refuses, accepts}
 use borrow.Author.Needs.{needs}
 use Rattle.reader.proofs.read_job.Statement.{statement}
@@ -22,34 +22,26 @@ enum-known-refusal c = search needs
 
 returns : tie.Need-returns
 returns c =
-    let file = now (c .before .before .before .before .before .before .before .before .before .before .before .before .args .file) in
-    let front = c .before .before .before .before .before .before .read-pieces in
-    let behind = c .before .before .read-links in
+    let front = c .before .before .before .before .before .before .read-pieces .ensures in
+    let behind = c .before .before .read-links .ensures in
     let item = c .before .item in
     record {
-      says =
-          accepts file (front .result) (behind .result) (front .last .1 .0) (front .last .1 .1 .0) (front .last .1 .1 .1 .0)
-          (front .last .1 .1 .1 .1 .0) (behind .last .1 .1 .0) (behind .last .1 .1 .1 .0) (behind .last .1 .1 .1 .1 .0)
-          (front .ensures) (behind .ensures) (item .result) (item .ensures) (c .match .keys2);
-      few = (front .ensures .few, behind .ensures .few);
-      piece-tables = front .ensures .sizes;
-      link-tables = behind .ensures .sizes;
+      says = accepts front behind (item .result) (item .ensures) (c .match .keys2);
+      few = (front .few, behind .few);
+      piece-tables = front .sizes;
+      link-tables = behind .sizes;
     }
 
 returns-2 : tie.Need-returns-2
 returns-2 c =
-    let file = now (c .before .before .before .before .before .before .before .before .before .before .before .before .before .before .args .file) in
-    let front = c .before .before .before .before .before .before .before .before .read-pieces in
-    let behind = c .before .before .before .before .read-links in
+    let front = c .before .before .before .before .before .before .before .before .read-pieces .ensures in
+    let behind = c .before .before .before .before .read-links .ensures in
     let item = c .before .before .before .item in
     record {
-      says =
-          refuses file (front .result) (behind .result) (front .last .1 .0) (front .last .1 .1 .0) (front .last .1 .1 .1 .0)
-          (front .last .1 .1 .1 .1 .0) (behind .last .1 .1 .0) (behind .last .1 .1 .1 .0) (behind .last .1 .1 .1 .1 .0)
-          (front .ensures) (behind .ensures) (item .result) (item .ensures) _ (c .before .refusal .given .1);
+      says = refuses front behind (item .result) (item .ensures) _ (c .before .refusal .given .1);
       few = tt;
-      piece-tables = front .ensures .sizes;
-      link-tables = behind .ensures .sizes;
+      piece-tables = front .sizes;
+      link-tables = behind .sizes;
     }
 
 pub read-job-spec : {M : Type 1} → statement M

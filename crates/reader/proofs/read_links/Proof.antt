@@ -1,10 +1,10 @@
--- `reader::read_links` meets its contract: each turn takes in one link, by the laws of `Taken`, and the answer that ends
--- the loop is no link.
+-- `reader::read_links` meets its contract: each turn takes in one link, by the laws of `Taken`, and the answer that
+-- ends the loop is no link.
 use Prim.Native.Nat.{_+_, _<_, _-_}
 use borrow.Author.Needs.{needs}
 use denote.Ref.{now}
 use mathlib.Core.List.{List}
-use mathlib.Core.Path.{_≡_, refl, sym, _∙_}
+use mathlib.Core.Path.{_≡_, sym, _∙_}
 use native.Mathlib.Omega.{arith}
 use lib.ListN.{length}
 use Rattle.rules.specs.Reading.{itemAt}
@@ -28,10 +28,7 @@ abbrev μ-loop : tie.MeasureT-loop
 loop-holds : tie.Need-loop-holds Inv-loop μ-loop
 loop-holds c =
     let start = c .before .before .before .before in
-    let a = start .args in (
-      behind-start (now (a .file)) (a .pieces) (now (a .befores)) (now (a .afters)) (now (a .handovers)) (start .pre .1),
-      start .pre .1,
-    )
+    (behind-start (now (start .args .file)) (start .args .pieces) (start .pre .1), start .pre .1)
 
 add-item : tie.Need-add-item Inv-loop μ-loop
 add-item c = omega arith
@@ -54,36 +51,32 @@ same-length-3 c = omega arith
 returns : tie.Need-returns Inv-loop μ-loop
 returns c =
     let at = c .before .before .loop in
+    let behind = at .inv .0 in
     let L = linksIn (at .m) (at .befores) (at .afters) (at .handovers) in
     let long = links-length (at .m) (at .befores) (at .afters) (at .handovers) in
+    let item = c .before .item in
     record {
-      few = at .inv .0 .few;
-      onward = at .inv .0 .onward;
-      sizes = at .inv .0 .sizes;
-      last = λ P size l h.
-          no-tie (c .before .item .result) (c .match .keys2) l (c .before .item .ensures (jobOf P L) size long ∙ h);
+      few = behind .few;
+      onward = behind .onward;
+      last = λ P size l h. no-tie (item .result) (c .match .keys2) l (item .ensures (jobOf P L) size long ∙ h);
+      sizes = behind .sizes;
     }
 
--- The record that a turn takes in is the next link, behind any so many pieces.
+-- The record that a turn takes in is the next link, behind any so many pieces, and the tables have room for it.
 read : (c : tie.After-known-told Inv-loop μ-loop) →
     let a = c .before .before .before .before .before .before .before .before .before .args in
     let at = c .before .before .before .before .loop in
     (P : List Piece) → length P ≡ a .pieces →
     itemAt (now (a .file)) (a .pieces + at .m) (jobOf P (linksIn (at .m) (at .befores) (at .afters) (at .handovers)))
     ≡ Tie (c .before .l .given .0 .0)
-read c P long =
+read c P size =
     let at = c .before .before .before .before .loop in
     let L = linksIn (at .m) (at .befores) (at .afters) (at .handovers) in
-    sym
-    (c .before .before .before .item .ensures (jobOf P L) long
-    (links-length (at .m) (at .befores) (at .afters) (at .handovers)))
-    ∙ c .before .l .given .1
+    let long = links-length (at .m) (at .befores) (at .afters) (at .handovers) in
+    sym (c .before .before .before .item .ensures (jobOf P L) size long) ∙ c .before .l .given .1
 
 room : (c : tie.After-known-told Inv-loop μ-loop) → c .before .before .before .before .loop .m < 1024
-room c =
-    let a = c .before .before .before .before .before .before .before .before .before .args in
-    let at = c .before .before .before .before .loop in
-    behind-room (now (a .file)) (a .pieces) (at .befores) (at .afters) (at .handovers) (at .m) _ (read c)
+room c = behind-room (c .before .before .before .before .loop .inv .0) _ (read c)
 
 mul-befores : tie.Need-mul-befores Inv-loop μ-loop
 mul-befores c = omega (arith, room c)
@@ -111,11 +104,8 @@ loop-less c = omega (arith, room c)
 
 loop-again : tie.Need-loop-again Inv-loop μ-loop
 loop-again c =
-    let a = c .before .before .before .before .before .before .before .before .before .args in
-    let at = c .before .before .before .before .loop in (
-      behind-on (now (a .file)) (a .pieces) (at .befores) (at .afters) (at .handovers) (at .m) _ (read c) (at .inv .0),
-      at .inv .1,
-    )
+    let inv = c .before .before .before .before .loop .inv in
+    (behind-on (inv .0) _ (read c), inv .1)
 
 pub read-links-spec : {M : Type 1} → statement M
 read-links-spec =

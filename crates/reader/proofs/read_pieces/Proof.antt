@@ -1,10 +1,11 @@
-use Prim.Native.Nat.{_≤_, _<_, _-_}
+-- `reader::read_pieces` meets its contract: each turn takes in one piece, by the laws of `Taken`, and the answer that
+-- ends the loop is no piece.
+use Prim.Native.Nat.{_<_, _-_}
 use borrow.Author.Needs.{needs}
 use denote.Ref.{now}
 use mathlib.Core.List.{[]}
 use mathlib.Core.Path.{_≡_, refl, sym, _∙_}
 use native.Mathlib.Omega.{arith}
-use lib.ListN.{length}
 use Rattle.rules.specs.Reading.{itemAt}
 use Rattle.rules.specs.Tables.{piecesIn}
 use Rattle.rules.specs.declared.Item.the-variants.{Work}
@@ -14,9 +15,6 @@ use Rattle.reader.proofs.Answers.{no-work}
 use Rattle.reader.proofs.Taken.{Front, front-start, front-room, front-on, pieces-length}
 use Rattle.reader.proofs.read_pieces.Statement.{statement}
 use Rattle.reader.proofs.read_pieces.Tie as tie
-use Rattle.reader.proofs.read_pieces.Reads as reads
-use Rattle.reader.proofs.read_pieces.Lts as lts
-use Rattle.cursor.proofs.items.item_at.Reads as item-reads
 
 abbrev Inv-loop : tie.InvT-loop
 Inv-loop file desks₀ durations₀ releases₀ dues₀ n₀ desks durations releases dues n =
@@ -25,114 +23,89 @@ Inv-loop file desks₀ durations₀ releases₀ dues₀ n₀ desks durations rel
 abbrev μ-loop : tie.MeasureT-loop
 μ-loop file desks₀ durations₀ releases₀ dues₀ n₀ desks durations releases dues n = 256 - n
 
--- src/lib.rt:31:5
 loop-holds : tie.Need-loop-holds Inv-loop μ-loop
 loop-holds c =
     let start = c .before .before .before .before .before in
-    let a = start .args in (
-      front-start (now (a .file)) (now (a .desks)) (now (a .durations)) (now (a .releases)) (now (a .dues)) (start .pre),
-      start .pre,
-    )
+    (front-start (now (start .args .file)) (start .pre), start .pre)
 
--- src/lib.rt:32:29
 item-requires : tie.Need-item-requires Inv-loop μ-loop
 item-requires c κs = search needs
 
--- src/lib.rt:32:24
 enum-known-p : tie.Need-enum-known-p Inv-loop μ-loop
 enum-known-p c = search needs
 
--- src/lib.rt:33:13
 same-length : tie.Need-same-length Inv-loop μ-loop
 same-length c = omega arith
 
--- src/lib.rt:33:13
 same-length-2 : tie.Need-same-length-2 Inv-loop μ-loop
 same-length-2 c = omega arith
 
--- src/lib.rt:33:13
 same-length-3 : tie.Need-same-length-3 Inv-loop μ-loop
 same-length-3 c = omega arith
 
--- src/lib.rt:33:13
 same-length-4 : tie.Need-same-length-4 Inv-loop μ-loop
 same-length-4 c = omega arith
 
--- src/lib.rt:33:13
 returns : tie.Need-returns Inv-loop μ-loop
 returns c =
     let at = c .before .before .loop in
+    let front = at .inv .0 in
     let J = jobOf (piecesIn (at .n) (at .desks) (at .durations) (at .releases) (at .dues)) [] in
     let long = pieces-length (at .n) (at .desks) (at .durations) (at .releases) (at .dues) in
+    let item = c .before .item in
     record {
-      few = at .inv .0 .few;
-      onward = at .inv .0 .onward;
-      sizes = at .inv .0 .sizes;
-      last = λ p h. no-work (c .before .item .result) (c .match .keys2) p (c .before .item .ensures J long refl ∙ h);
+      few = front .few;
+      onward = front .onward;
+      last = λ p h. no-work (item .result) (c .match .keys2) p (item .ensures J long refl ∙ h);
+      sizes = front .sizes;
     }
 
--- src/lib.rt:35:9
--- The record that a turn takes in is the next piece.
+-- The record that a turn takes in is the next piece, and the tables have room for it.
 read : (c : tie.After-known-told Inv-loop μ-loop) →
-    let a = c .before .before .before .before .before .before .before .before .before .before .args in
+    let file = c .before .before .before .before .before .before .before .before .before .before .args .file in
     let at = c .before .before .before .before .loop in
-    itemAt (now (a .file)) (at .n) (jobOf (piecesIn (at .n) (at .desks) (at .durations) (at .releases) (at .dues)) [])
+    itemAt (now file) (at .n) (jobOf (piecesIn (at .n) (at .desks) (at .durations) (at .releases) (at .dues)) [])
     ≡ Work (c .before .p .given .0 .0)
 read c =
     let at = c .before .before .before .before .loop in
     let J = jobOf (piecesIn (at .n) (at .desks) (at .durations) (at .releases) (at .dues)) [] in
-    sym (c .before .before .before .item .ensures J (pieces-length (at .n) (at .desks) (at .durations) (at .releases) (at .dues)) refl)
-    ∙ c .before .p .given .1
+    let long = pieces-length (at .n) (at .desks) (at .durations) (at .releases) (at .dues) in
+    sym (c .before .before .before .item .ensures J long refl) ∙ c .before .p .given .1
 
 room : (c : tie.After-known-told Inv-loop μ-loop) → c .before .before .before .before .loop .n < 256
-room c =
-    let a = c .before .before .before .before .before .before .before .before .before .before .args in
-    let at = c .before .before .before .before .loop in
-    front-room (now (a .file)) (at .desks) (at .durations) (at .releases) (at .dues) (at .n) _ (read c)
+room c = front-room (c .before .before .before .before .loop .inv .0) _ (read c)
 
 slice-write-desks : tie.Need-slice-write-desks Inv-loop μ-loop
 slice-write-desks c = omega (arith, room c)
 
--- src/lib.rt:36:9
 mul-durations : tie.Need-mul-durations Inv-loop μ-loop
 mul-durations c = omega (arith, room c)
 
--- src/lib.rt:36:9
 slice-write-durations : tie.Need-slice-write-durations Inv-loop μ-loop
 slice-write-durations c = omega (arith, room c)
 
--- src/lib.rt:37:9
 mul-releases : tie.Need-mul-releases Inv-loop μ-loop
 mul-releases c = omega (arith, room c)
 
--- src/lib.rt:37:9
 slice-write-releases : tie.Need-slice-write-releases Inv-loop μ-loop
 slice-write-releases c = omega (arith, room c)
 
--- src/lib.rt:38:9
 mul-dues : tie.Need-mul-dues Inv-loop μ-loop
 mul-dues c = omega (arith, room c)
 
--- src/lib.rt:38:9
 slice-write-dues : tie.Need-slice-write-dues Inv-loop μ-loop
 slice-write-dues c = omega (arith, room c)
 
--- src/lib.rt:39:9
 add-n : tie.Need-add-n Inv-loop μ-loop
 add-n c = omega (arith, room c)
 
--- src/lib.rt:31:5
 loop-less : tie.Need-loop-less Inv-loop μ-loop
 loop-less c = omega (arith, room c)
 
--- src/lib.rt:31:5
 loop-again : tie.Need-loop-again Inv-loop μ-loop
 loop-again c =
-    let a = c .before .before .before .before .before .before .before .before .before .before .args in
-    let at = c .before .before .before .before .loop in (
-      front-on (now (a .file)) (at .desks) (at .durations) (at .releases) (at .dues) (at .n) _ (read c) (at .inv .0),
-      at .inv .1,
-    )
+    let inv = c .before .before .before .before .loop .inv in
+    (front-on (inv .0) _ (read c), inv .1)
 
 pub read-pieces-spec : {M : Type 1} → statement M
 read-pieces-spec =

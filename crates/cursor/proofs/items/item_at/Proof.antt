@@ -42,13 +42,19 @@ returns-2 : tie.Need-returns-2
 unfolding itemAt
 returns-2 c J n m =
     let a = c .before .before .before .args in
-    simp (le-ltb (a .k) (length (now (a .file)) / 16) (omega arith), eq-eqb (length (now (a .file)) % 16) 0 (omega arith))
+    simp (
+      le-ltb (a .k) (length (now (a .file)) / 16) (omega arith),
+      eq-eqb (length (now (a .file)) % 16) 0 (omega arith),
+    )
 
 returns-3 : tie.Need-returns-3
 unfolding itemAt
 returns-3 c J n m =
     let a = c .before .before .before .args in
-    simp (le-ltb (a .k) (length (now (a .file)) / 16) (omega arith), ne-eqb (length (now (a .file)) % 16) 0 (omega arith))
+    simp (
+      le-ltb (a .k) (length (now (a .file)) / 16) (omega arith),
+      ne-eqb (length (now (a .file)) % 16) 0 (omega arith),
+    )
 
 pub item-at-spec : {M : Type 1} → statement M
 item-at-spec =

@@ -32,9 +32,11 @@ unfolding contents kindFault valueFault
 returns c J n m =
     let a = c .before .before .before .before .before .before .before .args in
     let fields = c .before .before .before .before .before .link-of .ensures in
-    judged-in-turn ofLink J (a .k) (now (a .r)) refl (c .before .before .before .before .link-order-fault .ensures J n m)
-    (c .before .before .before .link-fault .ensures ∙ ap₂ linkFault (sym n) fields) (c .before .before .link-zero-fault .ensures)
-    (c .before .in-turn .ensures) (ap Tie fields) (c .unless-fault .ensures)
+    let order = c .before .before .before .before .link-order-fault .ensures J m in
+    let values = c .before .before .before .link-fault .ensures ∙ ap₂ linkFault (sym n) fields in
+    let zeros = c .before .before .link-zero-fault .ensures in
+    judged-in-turn ofLink J (a .k) (now (a .r)) refl order values zeros (c .before .in-turn .ensures) (ap Tie fields)
+    (c .unless-fault .ensures)
 
 pub link-item-spec : {M : Type 1} → statement M
 link-item-spec =

@@ -32,9 +32,11 @@ unfolding contents kindFault valueFault
 returns c J n m =
     let a = c .before .before .before .before .before .before .before .args in
     let fields = c .before .before .before .before .before .piece-of .ensures in
-    judged-in-turn ofPiece J (a .k) (now (a .r)) refl (c .before .before .before .before .piece-order-fault .ensures J n m)
-    (c .before .before .before .piece-fault .ensures ∙ ap pieceFault fields) (c .before .before .piece-zero-fault .ensures)
-    (c .before .in-turn .ensures) (ap Work fields) (c .unless-fault .ensures)
+    let order = c .before .before .before .before .piece-order-fault .ensures J n m in
+    let values = c .before .before .before .piece-fault .ensures ∙ ap pieceFault fields in
+    let zeros = c .before .before .piece-zero-fault .ensures in
+    judged-in-turn ofPiece J (a .k) (now (a .r)) refl order values zeros (c .before .in-turn .ensures) (ap Work fields)
+    (c .unless-fault .ensures)
 
 pub piece-item-spec : {M : Type 1} → statement M
 piece-item-spec =

@@ -1,6 +1,6 @@
--- `cursor::reading::item` meets its contract, by a walk of its code: a reader is made of the file, moved to record k, and
--- asked for what stands there. All that the walk knows of the three is that each meets its contract. In a local of a body
--- the struct's lifetime is erased, so a reader's machine value is shown to have the type there too.
+-- `cursor::reading::item` meets its contract, by a walk of its code: a reader is made of the file, moved to record k,
+-- and asked for what stands there. All that the walk knows of the three is that each meets its contract. In a local
+-- of a body the struct's lifetime is erased, so a reader's machine value is shown to have the type there too.
 use mathlib.Core.Path.{_≡_, refl, ap₂, _∙_}
 use Prim.Native.Nat.{ℕ, _<_, _^_}
 use mathlib.Core.List.{List, [], _∷_}

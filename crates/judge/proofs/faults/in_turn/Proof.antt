@@ -12,7 +12,9 @@ first-fault-requires-2 : tie.Need-first-fault-requires-2
 first-fault-requires-2 c κs = search needs
 
 returns : tie.Need-returns
-returns c = c .first-fault2 .ensures ∙ ap (firstFault (c .before .before .args .order)) (c .before .first-fault .ensures)
+returns c =
+    c .first-fault2 .ensures
+    ∙ ap (firstFault (c .before .before .args .order)) (c .before .first-fault .ensures)
 
 pub in-turn-spec : {M : Type 1} → statement M
 in-turn-spec = tie.close (tie.spec first-fault-requires first-fault-requires-2 returns)

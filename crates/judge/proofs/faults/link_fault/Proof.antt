@@ -28,13 +28,21 @@ returns-3 : tie.Need-returns-3
 unfolding linkFault
 returns-3 c =
     let a = c .before .before .before .before .before .before .args in
-    simp (lt-leb (a .pieces) (a .l .before) (omega arith), lt-leb (a .pieces) (a .l .after) (omega arith), lt-ltb 480 (a .l .handover) (omega arith))
+    simp (
+      lt-leb (a .pieces) (a .l .before) (omega arith),
+      lt-leb (a .pieces) (a .l .after) (omega arith),
+      lt-ltb 480 (a .l .handover) (omega arith),
+    )
 
 returns-4 : tie.Need-returns-4
 unfolding linkFault
 returns-4 c =
     let a = c .before .before .before .before .before .before .args in
-    simp (lt-leb (a .pieces) (a .l .before) (omega arith), lt-leb (a .pieces) (a .l .after) (omega arith), le-ltb 480 (a .l .handover) (omega arith))
+    simp (
+      lt-leb (a .pieces) (a .l .before) (omega arith),
+      lt-leb (a .pieces) (a .l .after) (omega arith),
+      le-ltb 480 (a .l .handover) (omega arith),
+    )
 
 pub link-fault-spec : {M : Type 1} → statement M
 link-fault-spec = tie.close (tie.spec cast-before cast-after returns returns-2 returns-3 returns-4)

@@ -25,7 +25,10 @@ returns-2 : tie.Need-returns-2
 unfolding zeroFault
 returns-2 c =
     let s = now (c .before .before .before .before .before .args .r) in
-    rw (eq-eqb (byteAt s 1) 0 (omega arith), not-zeros (byteAt s 8) (byteAt s 9) (byteAt s 10) (byteAt s 11) _ (omega arith))
+    rw (
+      eq-eqb (byteAt s 1) 0 (omega arith),
+      not-zeros (byteAt s 8) (byteAt s 9) (byteAt s 10) (byteAt s 11) _ (omega arith),
+    )
 
 word-at-requires-2 : tie.Need-word-at-requires-2
 word-at-requires-2 c κs = search needs
@@ -34,13 +37,21 @@ returns-3 : tie.Need-returns-3
 unfolding zeroFault
 returns-3 c =
     let s = now (c .before .before .before .before .before .before .before .args .r) in
-    rw (eq-eqb (byteAt s 1) 0 (omega arith), zeros (byteAt s 8) (byteAt s 9) (byteAt s 10) (byteAt s 11) _ (omega arith), not-zeros (byteAt s 12) (byteAt s 13) (byteAt s 14) (byteAt s 15) _ (omega arith))
+    rw (
+      eq-eqb (byteAt s 1) 0 (omega arith),
+      zeros (byteAt s 8) (byteAt s 9) (byteAt s 10) (byteAt s 11) _ (omega arith),
+      not-zeros (byteAt s 12) (byteAt s 13) (byteAt s 14) (byteAt s 15) _ (omega arith),
+    )
 
 returns-4 : tie.Need-returns-4
 unfolding zeroFault
 returns-4 c =
     let s = now (c .before .before .before .before .before .before .before .args .r) in
-    rw (eq-eqb (byteAt s 1) 0 (omega arith), zeros (byteAt s 8) (byteAt s 9) (byteAt s 10) (byteAt s 11) _ (omega arith), zeros (byteAt s 12) (byteAt s 13) (byteAt s 14) (byteAt s 15) _ (omega arith))
+    rw (
+      eq-eqb (byteAt s 1) 0 (omega arith),
+      zeros (byteAt s 8) (byteAt s 9) (byteAt s 10) (byteAt s 11) _ (omega arith),
+      zeros (byteAt s 12) (byteAt s 13) (byteAt s 14) (byteAt s 15) _ (omega arith),
+    )
 
 pub link-zero-fault-spec : {M : Type 1} → statement M
 link-zero-fault-spec =

@@ -21,25 +21,46 @@ returns-3 : tie.Need-returns-3
 unfolding pieceFault
 returns-3 c =
     let p = c .before .before .before .before .before .before .args .p in
-    simp (le-ltb 31 (p .desk) (omega arith), ne-eqb (p .duration) 0 (omega arith), lt-ltb 960 (p .duration) (omega arith))
+    simp (
+      le-ltb 31 (p .desk) (omega arith),
+      ne-eqb (p .duration) 0 (omega arith),
+      lt-ltb 960 (p .duration) (omega arith),
+    )
 
 returns-4 : tie.Need-returns-4
 unfolding pieceFault
 returns-4 c =
     let p = c .before .before .before .before .before .before .before .before .args .p in
-    simp (le-ltb 31 (p .desk) (omega arith), ne-eqb (p .duration) 0 (omega arith), le-ltb 960 (p .duration) (omega arith), lt-ltb 40000 (p .release) (omega arith))
+    simp (
+      le-ltb 31 (p .desk) (omega arith),
+      ne-eqb (p .duration) 0 (omega arith),
+      le-ltb 960 (p .duration) (omega arith),
+      lt-ltb 40000 (p .release) (omega arith),
+    )
 
 returns-5 : tie.Need-returns-5
 unfolding pieceFault
 returns-5 c =
     let p = c .before .before .before .before .before .before .before .before .before .before .args .p in
-    simp (le-ltb 31 (p .desk) (omega arith), ne-eqb (p .duration) 0 (omega arith), le-ltb 960 (p .duration) (omega arith), le-ltb 40000 (p .release) (omega arith), lt-ltb 40000 (p .due) (omega arith))
+    simp (
+      le-ltb 31 (p .desk) (omega arith),
+      ne-eqb (p .duration) 0 (omega arith),
+      le-ltb 960 (p .duration) (omega arith),
+      le-ltb 40000 (p .release) (omega arith),
+      lt-ltb 40000 (p .due) (omega arith),
+    )
 
 returns-6 : tie.Need-returns-6
 unfolding pieceFault
 returns-6 c =
     let p = c .before .before .before .before .before .before .before .before .before .before .args .p in
-    simp (le-ltb 31 (p .desk) (omega arith), ne-eqb (p .duration) 0 (omega arith), le-ltb 960 (p .duration) (omega arith), le-ltb 40000 (p .release) (omega arith), le-ltb 40000 (p .due) (omega arith))
+    simp (
+      le-ltb 31 (p .desk) (omega arith),
+      ne-eqb (p .duration) 0 (omega arith),
+      le-ltb 960 (p .duration) (omega arith),
+      le-ltb 40000 (p .release) (omega arith),
+      le-ltb 40000 (p .due) (omega arith),
+    )
 
 pub piece-fault-spec : {M : Type 1} → statement M
 piece-fault-spec = tie.close (tie.spec returns returns-2 returns-3 returns-4 returns-5 returns-6)

@@ -1,6 +1,6 @@
--- `Reader::moved` meets its contract, by a walk of its code: a reader is made anew of the file that the one passed holds,
--- and of another place. What the reader owns is had twice: one copy stays whole for the exit, and the other, with the
--- facts of the new place for those of the old, is what the result owns.
+-- `Reader::moved` meets its contract, by a walk of its code: a reader is made anew of the file that the one passed
+-- holds, and of another place. What the reader owns is had twice: one copy stays whole for the exit, and the other,
+-- with the facts of the new place for those of the old, is what the result owns.
 use mathlib.Core.Path.{refl}
 use Prim.Native.Nat.{ℕ, _<_, _^_}
 use mathlib.Core.List.{[], _∷_}
@@ -16,7 +16,7 @@ use prog.Wp.{Heap, Calls, Loops, WpFn, Tables}
 use ghost.Atoms.{Atoms}
 use contract.Monad.{Fun}
 use contract.Running.{givenOf, tables, tablesOf}
-use types.Kit.{Given, ‵, raw, _⊛_, _$_, _∵_, !, qed, by, move, use1, split, fsplit, fjoin, suffices, frame}
+use types.Kit.{Given, ‵, _⊛_, _$_, _∵_, !, qed, by, move, use1, split, fsplit, fjoin, suffices, frame}
 use types.Part.{whole, sub, look-in, agg}
 use types.Run.{look, init, forget, stop, fld, from, load, of-opd, and-then, no-more, assigns, returns, enter}
 use types.Run.{alloc1, alloc0, params1, pass1, pass0, free1, free0}

@@ -1,5 +1,5 @@
--- `Reader::new` meets its contract, by a walk of its code: the reader is made, in the result's local, of the file lent and
--- of 0. What the lent file owns is had twice, for the file at exit and for the reader's field.
+-- `Reader::new` meets its contract, by a walk of its code: the reader is made, in the result's local, of the file
+-- lent and of 0. What the lent file owns is had twice, for the file at exit and for the reader's field.
 use mathlib.Core.Path.{refl}
 use Prim.Native.Nat.{ℕ}
 use mathlib.Core.List.{List, [], _∷_}

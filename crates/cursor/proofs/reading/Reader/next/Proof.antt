@@ -1,6 +1,6 @@
--- `Reader::next` meets its contract, by a walk of its code: the reader is taken apart, and `item_at` is called on the file
--- and the place. All that the walk knows of `item_at` is that it meets its contract. What the reader owns is had twice:
--- one copy stays whole for the exit, and of the other what the file owns goes to the callee.
+-- `Reader::next` meets its contract, by a walk of its code: the reader is taken apart, and `item_at` is called on the
+-- file and the place. All that the walk knows of `item_at` is that it meets its contract. What the reader owns is had
+-- twice: one copy stays whole for the exit, and of the other what the file owns goes to the callee.
 use mathlib.Core.Path.{_≡_, refl}
 use Prim.Native.Nat.{ℕ, _<_, _^_}
 use mathlib.Core.List.{[], _∷_}
