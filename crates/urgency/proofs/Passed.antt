@@ -27,14 +27,14 @@ module _ (l : Ties) (p c m : ℕ) (few : m < 1025) where
     pub rest : passFrom l p c k₀ n s ≡ passFrom l p c (suc k) (m - suc k) (passed l c k s)
 
   pub next-found : (s : Waiting) (k₀ n : ℕ) → k₀ + n ≡ m → nextLink (l .befores) p k₀ n < m
-    → Onward s k₀ n (nextLink (l .befores) p k₀ n)
+      → Onward s k₀ n (nextLink (l .befores) p k₀ n)
   unfolding nextLink passFrom
   next-found s k₀ zero h f = absurd (omega arith)
   next-found s k₀ (suc n) h f = by-test (eqb (getD (l .befores) k₀ 0) p)
       (λ e. let z : m - suc k₀ ≡ n = omega arith in
-        rw (e, when) (record { own = eqb-true _ p e; rest = rw (z, e, when) }))
+      rw (e, when) (record { own = eqb-true _ p e; rest = rw (z, e, when) }))
       (λ e. let ih = next-found s (suc k₀) n (omega arith) (rw (e, when) at f) in
-        rw (e, when) (record { own = ih .own; rest = rw (e, when) (ih .rest) }))
+      rw (e, when) (record { own = ih .own; rest = rw (e, when) (ih .rest) }))
 
   -- The same for the place k at which the code stands.
   pub found-at : (s : Waiting) (k₀ n k : ℕ) → k₀ + n ≡ m → k ≡ nextLink (l .befores) p k₀ n → k < m → Onward s k₀ n k
@@ -48,17 +48,17 @@ module _ (l : Ties) (p c m : ℕ) (few : m < 1025) where
       (λ e. rw (e, when) (next-nothing s (suc k₀) n (omega arith) (rw (e, when) at f)))
 
   pub nothing-at : (s : Waiting) (k₀ n k : ℕ) → k₀ + n ≡ m → k ≡ nextLink (l .befores) p k₀ n → m ≤ k
-    → s ≡ passFrom l p c k₀ n s
+      → s ≡ passFrom l p c k₀ n s
   nothing-at s k₀ n k h e f = sym (next-nothing s k₀ n h (rw e at f))
 
 -- One link looked at, with what the code computed for it.
 pub passed-on : (l : Ties) (c k w r d : ℕ) (s : Waiting) → w ≡ getD (s .waits) (getD (l .afters) k 0) 0 - 1
-  → d ≡ delayOf l k → r ≡ max (getD (s .ready) (getD (l .afters) k 0) 0) (c + d)
-  → waiting (set (s .waits) (getD (l .afters) k 0) w) (set (s .ready) (getD (l .afters) k 0) r) ≡ passed l c k s
+    → d ≡ delayOf l k → r ≡ max (getD (s .ready) (getD (l .afters) k 0) 0) (c + d)
+    → waiting (set (s .waits) (getD (l .afters) k 0) w) (set (s .ready) (getD (l .afters) k 0) r) ≡ passed l c k s
 passed-on l c k w r d s a e b = rw (a, b, e)
 
 pub delay-is : (l : Ties) (k h d : ℕ) → h ≡ getD (l .handovers) k 0
-  → d ≡ when (eqb (getD (l .desks) (getD (l .befores) k 0) 0) (getD (l .desks) (getD (l .afters) k 0) 0)) 0 h → d ≡ delayOf l k
+    → d ≡ when (eqb (getD (l .desks) (getD (l .befores) k 0) 0) (getD (l .desks) (getD (l .afters) k 0) 0)) 0 h → d ≡ delayOf l k
 unfolding delayOf
 delay-is l k h d e f = f ∙ rw e
 
@@ -81,6 +81,6 @@ module _ (l : Ties) (m c : ℕ) (left : List ℕ) where
       (rw (lt-ltb i 256 (omega arith)) (eq-eqb (getD left i 0) 0 (omega arith))))
 
   pub hand-more : (chosen : List ℕ) (d : ℕ) (s : Waiting)
-    → handTo l m c left chosen (d + 1) s ≡ handOn l m c left (getD chosen d 0) (handTo l m c left chosen d s)
+      → handTo l m c left chosen (d + 1) s ≡ handOn l m c left (getD chosen d 0) (handTo l m c left chosen d s)
   unfolding handTo
   hand-more chosen d s = rw (add-one d)

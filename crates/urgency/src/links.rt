@@ -1,7 +1,6 @@
 // What the links do to the pieces: how many unfinished pieces a piece waits for, and from when on it may be ready. A link
 // is looked at once, when the piece before it is finished.
 use crate::work;
-
 ghost use mathlib.Core.Path.{_≡_};
 ghost use Prim.Native.Nat.{ℕ, _-_, _<_, _≤_, max};
 ghost use lib.Dec.{eqb};
@@ -25,7 +24,12 @@ pub fn count(m: usize, afters: &[u16; 1024], waits: &mut [u32; 256])
 
 // Chains the links of each piece before: `first` has the place of its first link, `following` for each link the next of the
 // same piece, 1024 where there is none.
-pub fn chain(m: usize, befores: &[u16; 1024], first: &mut [usize; 256], following: &mut [usize; 1024])
+pub fn chain(
+    m: usize,
+    befores: &[u16; 1024],
+    first: &mut [usize; 256],
+    following: &mut [usize; 1024],
+)
     requires { ⌜ (m ≤ 1024) × ((k : ℕ) → k < m → getD (now befores) k 0 < 256) ⌝ }
     requires { ⌜ (length (now first) ≡ 256) × (length (now following) ≡ 1024) ⌝ }
     requires { ⌜ ((p : ℕ) → p < 256 → getD (now first) p 0 ≡ 1024) ⌝ }
@@ -79,7 +83,10 @@ fn pass(
     let b = befores[k] as usize;
     let a = afters[k] as usize;
     waits[a] = one_less(waits[a]);
-    ready[a] = later(ready[a], c + delay(desks[b], desks[a], work::wide(handovers[k])));
+    ready[a] = later(
+        ready[a],
+        c + delay(desks[b], desks[a], work::wide(handovers[k])),
+    );
 }
 
 // Piece p was finished at moment c: each of its links is looked at.
@@ -136,7 +143,19 @@ fn hand_on(
     if 0 < left[i] {
         return;
     }
-    pass_on(m, i, c, desks, befores, afters, handovers, first, following, waits, ready);
+    pass_on(
+        m,
+        i,
+        c,
+        desks,
+        befores,
+        afters,
+        handovers,
+        first,
+        following,
+        waits,
+        ready,
+    );
 }
 
 // The same for the pieces that the desks chose.
@@ -162,7 +181,20 @@ pub fn hand_all(
 {
     let mut d = 0;
     while d < 32 {
-        hand_on(m, chosen[d], c, desks, befores, afters, handovers, first, following, left, waits, ready);
+        hand_on(
+            m,
+            chosen[d],
+            c,
+            desks,
+            befores,
+            afters,
+            handovers,
+            first,
+            following,
+            left,
+            waits,
+            ready,
+        );
         d += 1;
     }
 }

@@ -18,11 +18,12 @@ abbrev μ-loop : tie.MeasureT-loop
 
 loop-holds : tie.Need-loop-holds Inv-loop μ-loop
 loop-holds c =
-    let a = c .args in
-    ( omega arith
-    , c .pre .1 .0 .0
-    , c .pre .1 .0 .1
-    , nothing-linked (a .m) (a .befores .now) (a .first .now) (a .following .now) (c .pre .1 .1))
+    let a = c .args in (
+      omega arith,
+      c .pre .1 .0 .0,
+      c .pre .1 .0 .1,
+      nothing-linked (a .m) (a .befores .now) (a .first .now) (a .following .now) (c .pre .1 .1),
+    )
 
 sub-k : tie.Need-sub-k Inv-loop μ-loop
 sub-k c = omega arith
@@ -64,12 +65,13 @@ loop-less c = omega arith
 loop-again : tie.Need-loop-again Inv-loop μ-loop
 loop-again c =
     let a = c .before .before .before .before .args in
-    let l = c .before .before .before .loop in
-    ( omega arith
-    , simp length-set (l .inv .1)
-    , simp length-set (l .inv .2)
-    , link-more (a .m) (a .befores .now) (l .first) (l .following) (l .k) (l .k - 1) (omega arith) (l .inv .0) (omega arith)
-      (l .inv .1) (l .inv .2) (before-in (c .before .before)) (l .inv .3))
+    let l = c .before .before .before .loop in (
+      omega arith,
+      simp length-set (l .inv .1),
+      simp length-set (l .inv .2),
+      link-more (a .m) (a .befores .now) (l .first) (l .following) (l .k) (l .k - 1) (omega arith) (l .inv .0) (omega arith)
+          (l .inv .1) (l .inv .2) (before-in (c .before .before)) (l .inv .3),
+    )
 
 returns : tie.Need-returns Inv-loop μ-loop
 returns c =

@@ -33,9 +33,9 @@ loop-holds c =
 
 -- The link at which the loop stands is one of piece p's, and what is passed on from there is all that is left.
 found : (c : tie.In-loop Inv-loop μ-loop) →
-  let a = c .before .before .before .args in
-  let l = c .before .loop in
-  Onward (ties (a .desks .now) (a .befores .now) (a .afters .now) (a .handovers .now)) (a .p) (a .c) (a .m) (c .before .before .before .pre .0 .few) (waiting (l .waits) (l .ready)) (l .inv .0) (l .inv .1) (l .k)
+    let a = c .before .before .before .args in
+    let l = c .before .loop in
+    Onward (ties (a .desks .now) (a .befores .now) (a .afters .now) (a .handovers .now)) (a .p) (a .c) (a .m) (c .before .before .before .pre .0 .few) (waiting (l .waits) (l .ready)) (l .inv .0) (l .inv .1) (l .k)
 found c =
     let a = c .before .before .before .args in
     let l = c .before .loop in
@@ -59,21 +59,25 @@ loop-less : tie.Need-loop-less Inv-loop μ-loop
 loop-less c =
     let a = c .before .before .before .before .before .before .before .args in
     let l = c .before .before .before .before .before .loop in
-    omega (arith, c .before .before .before .before .before .before .before .pre .1 .0 .followings (l .k) (c .before .before .before .before .loop-test .taken),
-      next-from (a .befores .now) (getD (a .befores .now) (l .k) 0) (suc (l .k)) (a .m - suc (l .k)) (omega arith))
+    omega (
+      arith,
+      c .before .before .before .before .before .before .before .pre .1 .0 .followings (l .k) (c .before .before .before .before .loop-test .taken),
+      next-from (a .befores .now) (getD (a .befores .now) (l .k) 0) (suc (l .k)) (a .m - suc (l .k)) (omega arith),
+    )
 
 loop-again : tie.Need-loop-again Inv-loop μ-loop
 loop-again c =
     let a = c .before .before .before .before .before .before .before .args in
     let l = c .before .before .before .before .before .loop in
     let t = ties (a .desks .now) (a .befores .now) (a .afters .now) (a .handovers .now) in
-    let f = found (c .before .before .before .before) in
-    ( suc (l .k)
-    , a .m - suc (l .k)
-    , omega arith
-    , c .before .before .before .before .before .before .before .pre .1 .0 .followings (l .k) (c .before .before .before .before .loop-test .taken)
-      ∙ ap (λ x. nextLink (a .befores .now) x (suc (l .k)) (a .m - suc (l .k))) (f .own)
-    , ap (passFrom t (a .p) (a .c) (suc (l .k)) (a .m - suc (l .k))) (c .before .pass .ensures) ∙ sym (f .rest) ∙ l .inv .4)
+    let f = found (c .before .before .before .before) in (
+      suc (l .k),
+      a .m - suc (l .k),
+      omega arith,
+      c .before .before .before .before .before .before .before .pre .1 .0 .followings (l .k) (c .before .before .before .before .loop-test .taken)
+          ∙ ap (λ x. nextLink (a .befores .now) x (suc (l .k)) (a .m - suc (l .k))) (f .own),
+      ap (passFrom t (a .p) (a .c) (suc (l .k)) (a .m - suc (l .k))) (c .before .pass .ensures) ∙ sym (f .rest) ∙ l .inv .4,
+    )
 
 returns : tie.Need-returns Inv-loop μ-loop
 returns c =
