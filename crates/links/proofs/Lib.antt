@@ -1,1 +1,4 @@
 pub mod ChainLaws
+pub mod Counting
+pub mod QueueLaws
+pub mod PassingLaws
