@@ -1,4 +1,6 @@
 pub mod ChainLaws
+pub mod LinkLaws
 pub mod Counting
 pub mod QueueLaws
 pub mod PassingLaws
+pub mod RingLaws

@@ -14,7 +14,7 @@ use Rattle.rules.specs.Words.{when}
 use Rattle.laws.proofs.Words.{by-test, when-true, when-false}
 use Rattle.links.specs.Links.{counted, linksTo}
 use Rattle.links.specs.Queue.{Queue, Passed, ToCount, CountedTo}
-use Rattle.links.proofs.Counting.{counted-same, counted-one, counted-most, below-or-last}
+use Rattle.links.proofs.Counting.{counted-none, counted-same, counted-one, counted-most, below-or-last}
 
 -- Links into each piece: none yet, one more, and no more than were looked at.
 pub count-none : (m : ℕ) (afters waits : List ℕ) → ToCount m afters waits → CountedTo 0 afters waits
@@ -47,6 +47,19 @@ queue-none order waits h k = record {
   idle = λ q l. absurd (omega arith);
   once = λ p q l. absurd (omega arith);
   everyone = λ i l. absurd (omega arith);
+}
+
+-- All wait, and none is placed.
+pub queue-ones : (n : ℕ) (order waits : List ℕ) → length order ≡ 256 → length waits ≡ 256
+    → ((i : ℕ) → i < n → getD waits i 0 ≡ 1) → Queue n 0 order waits
+queue-ones n order waits h k ones = record {
+  order-sized = h;
+  waits-sized = k;
+  as-many = counted-none (λ i. eqb (getD waits i 0) 0) n (λ i l. ne-eqb (getD waits i 0) 0 (λ z. absurd (omega (arith, ones i l))));
+  inside = λ q l. absurd (omega arith);
+  idle = λ q l. absurd (omega arith);
+  once = λ p q l. absurd (omega arith);
+  everyone = λ i l z. absurd (omega (arith, ones i l));
 }
 
 -- No more are placed than there are pieces.

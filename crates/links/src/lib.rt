@@ -2,3 +2,4 @@
 // order that it finds, and the latest moments of all pieces.
 pub mod chains;
 pub mod queue;
+pub mod rings;
