@@ -4,3 +4,5 @@ pub mod Counting
 pub mod QueueLaws
 pub mod PassingLaws
 pub mod RingLaws
+pub mod Tightening
+pub mod Rounds

@@ -2,3 +2,4 @@ pub mod Chains
 pub mod Links
 pub mod Queue
 pub mod Rings
+pub mod Moments
