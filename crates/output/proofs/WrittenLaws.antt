@@ -11,7 +11,7 @@ use lib.Seq.{sets, length-sets}
 use lib.Dec.{eqb}
 use Rattle.rules.specs.Words.{keep, below, joined}
 use Rattle.rules.specs.Bytes.{word, signedWord, planRecord, runRecord, lastWord}
-use Rattle.urgency.specs.Log.{runAt, loggedRuns}
+use Rattle.steps.specs.Log.{runAt, loggedRuns}
 use Rattle.laws.proofs.Words.{by-test, length-below}
 use Rattle.laws.proofs.Joined.{joined-more, kept-more, not-kept-more, map-twice, mem-of-map}
 use Rattle.laws.proofs.Bytes.{word-sized, signed-sized, record-sized, run-sized, records-sized}

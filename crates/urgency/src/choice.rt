@@ -2,7 +2,7 @@
 ghost use mathlib.Core.Path.{_≡_};
 ghost use Prim.Native.Nat.{ℕ, _+_, _^_, _<_, _≤_, min};
 ghost use lib.ListN.{getD, replicate};
-ghost use Rattle.urgency.specs.Choice.{view, goesFirst, offered, consideredBy, momentWith, chosenFrom, readyNext, endWith, endNext, choiceOf, nextOf};
+ghost use Rattle.steps.specs.Choice.{view, goesFirst, offered, consideredBy, momentWith, chosenFrom, readyNext, endWith, endNext, choiceOf, nextOf};
 
 // The earlier of two moments.
 fn earlier(a: u32, b: u32) -> u32

@@ -1,13 +1,13 @@
-use Rattle.urgency.specs.Links.{ties, waiting}
+use Rattle.steps.specs.Handover.{ties, waiting}
 use Rattle.urgency.proofs.Passed.{passed-on, delay-is}
 use borrow.Author.Needs.{needs}
-use Rattle.urgency.proofs.links.pass.Statement.{statement}
-use Rattle.urgency.proofs.links.pass.Tie as tie
-use Rattle.urgency.proofs.links.pass.Reads as reads
-use Rattle.urgency.proofs.links.pass.Lts as lts
-use Rattle.urgency.proofs.links.delay.Reads as delay-reads
-use Rattle.urgency.proofs.links.later.Reads as later-reads
-use Rattle.urgency.proofs.links.one_less.Reads as one-less-reads
+use Rattle.urgency.proofs.handover.pass.Statement.{statement}
+use Rattle.urgency.proofs.handover.pass.Tie as tie
+use Rattle.urgency.proofs.handover.pass.Reads as reads
+use Rattle.urgency.proofs.handover.pass.Lts as lts
+use Rattle.urgency.proofs.handover.delay.Reads as delay-reads
+use Rattle.urgency.proofs.handover.later.Reads as later-reads
+use Rattle.urgency.proofs.handover.one_less.Reads as one-less-reads
 use Rattle.urgency.proofs.work.wide.Reads as wide-reads
 
 mul-b : tie.Need-mul-b

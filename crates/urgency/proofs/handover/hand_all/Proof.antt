@@ -1,20 +1,20 @@
 use Prim.Native.Nat.{_≤_, _-_}
 use mathlib.Core.Path.{_≡_, refl, sym, ap, _∙_}
 use native.Mathlib.Omega.{arith}
-use Rattle.urgency.specs.Links.{ties, waiting, handOn, handTo}
+use Rattle.steps.specs.Handover.{ties, waiting, handOn, handTo}
 use Rattle.urgency.proofs.Passed.{hand-more}
 use borrow.Author.Needs.{needs}
-use Rattle.urgency.proofs.links.hand_all.Statement.{statement}
-use Rattle.urgency.proofs.links.hand_all.Tie as tie
-use Rattle.urgency.proofs.links.hand_all.Reads as reads
-use Rattle.urgency.proofs.links.hand_all.Lts as lts
-use Rattle.urgency.proofs.links.hand_on.Reads as hand-on-reads
+use Rattle.urgency.proofs.handover.hand_all.Statement.{statement}
+use Rattle.urgency.proofs.handover.hand_all.Tie as tie
+use Rattle.urgency.proofs.handover.hand_all.Reads as reads
+use Rattle.urgency.proofs.handover.hand_all.Lts as lts
+use Rattle.urgency.proofs.handover.hand_on.Reads as hand-on-reads
 
 abbrev Inv-loop : tie.InvT-loop
 Inv-loop m c desks befores afters handovers first following chosen left waits₀ ready₀ d₀ waits ready d =
     (d ≤ 32)
     × (waiting waits ready
-    ≡ handTo (ties desks befores afters handovers) m c left chosen d (waiting waits₀ ready₀))
+      ≡ handTo (ties desks befores afters handovers) m c left chosen d (waiting waits₀ ready₀))
 
 abbrev μ-loop : tie.MeasureT-loop
 μ-loop m c desks befores afters handovers first following chosen left waits₀ ready₀ d₀ waits ready d = 32 - d
@@ -42,11 +42,10 @@ loop-again : tie.Need-loop-again Inv-loop μ-loop
 loop-again c =
     let a = c .before .before .before .before .before .before .args in
     let l = c .before .before .before .before .before .loop in
-    let t = ties (a .desks .now) (a .befores .now) (a .afters .now) (a .handovers .now) in (
-      omega arith,
-      c .hand-on .ensures ∙ ap (handOn t (a .m) (a .c) (a .left .now) _) (l .inv .1)
-          ∙ sym (hand-more t (a .m) (a .c) (a .left .now) (a .chosen .now) (l .d) _),
-    )
+    let t = ties (a .desks .now) (a .befores .now) (a .afters .now) (a .handovers .now) in
+    ( omega arith
+    , c .hand-on .ensures ∙ ap (handOn t (a .m) (a .c) (a .left .now) _) (l .inv .1)
+      ∙ sym (hand-more t (a .m) (a .c) (a .left .now) (a .chosen .now) (l .d) _))
 
 returns : tie.Need-returns Inv-loop μ-loop
 returns c = let e : c .before .loop .d ≡ 32 = omega arith in rw e at (c .before .loop .inv .1)

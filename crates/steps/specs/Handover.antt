@@ -1,10 +1,7 @@
--- What the links do to the tables of waits and of ready moments. The links of one piece are chained, so that each is looked
--- at once: `first` has the place of a piece's first link, `following` for each link that of the next one of the same
--- piece, 1,024 where there is none.
-use Prim.Native.Nat.{ℕ, zero, suc, _+_, _-_, _<_, max}
+-- What the links do to the tables of waits and of ready moments when the piece before them is finished.
+use Prim.Native.Nat.{ℕ, zero, suc, _+_, _-_, _≤_, _<_, max}
 use mathlib.Core.Bool.{Bool, _&&_}
 use mathlib.Core.List.{List}
-use mathlib.Core.Path.{_≡_}
 use lib.Dec.{ltb, eqb}
 use lib.ListN.{getD, set}
 use Rattle.rules.specs.Words.{when}
@@ -14,17 +11,6 @@ unfoldable pub intoOf : List ℕ → ℕ → ℕ → ℕ
 unfolding when
 intoOf afters i zero = 0
 intoOf afters i (suc k) = intoOf afters i k + when (eqb (getD afters k 0) i) 1 0
-
--- The first of the n links from k on that is one of piece p; 1,024 where none is.
-unfoldable pub nextLink : List ℕ → ℕ → ℕ → ℕ → ℕ
-unfolding when
-nextLink befores p k zero = 1024
-nextLink befores p k (suc n) = when (eqb (getD befores k 0) p) k (nextLink befores p (suc k) n)
-
--- The first m links are chained.
-pub record Chained (m : ℕ) (befores first following : List ℕ) : Type 0 where
-  pub firsts : (p : ℕ) → p < 256 → getD first p 0 ≡ nextLink befores p 0 m
-  pub followings : (k : ℕ) → k < m → getD following k 0 ≡ nextLink befores (getD befores k 0) (suc k) (m - suc k)
 
 -- The links' tables, with the desks of the pieces; and the tables that the links change.
 pub record Ties : Type 0 where
@@ -62,16 +48,16 @@ module _ (l : Ties) where
         ready = set (s .ready) a (max (getD (s .ready) a 0) (c + delayOf k));
       }
 
-  -- Piece p was finished at moment c: the same for those of the n links from k on that are its own.
-  unfoldable pub passFrom : ℕ → ℕ → ℕ → ℕ → Waiting → Waiting
+  -- Piece p was finished at moment c: the same for those of the first n links that are its own, from the last one back.
+  unfoldable pub passFrom : ℕ → ℕ → ℕ → Waiting → Waiting
   unfolding when
-  passFrom p c k zero s = s
-  passFrom p c k (suc n) s = passFrom p c (suc k) n (when (eqb (getD (l .befores) k 0) p) (passed c k s) s)
+  passFrom p c zero s = s
+  passFrom p c (suc k) s = passFrom p c k (when (eqb (getD (l .befores) k 0) p) (passed c k s) s)
 
   -- Piece i was worked on until moment c: nothing is passed on unless that finished it. 256 stands for no piece.
   unfoldable pub handOn : ℕ → ℕ → List ℕ → ℕ → Waiting → Waiting
   unfolding when passFrom
-  handOn m c left i s = when (ltb i 256 && eqb (getD left i 0) 0) (passFrom i c 0 m s) s
+  handOn m c left i s = when (ltb i 256 && eqb (getD left i 0) 0) (passFrom i c m s) s
 
   -- The same for the pieces that the first d desks chose.
   unfoldable pub handTo : ℕ → ℕ → List ℕ → List ℕ → ℕ → Waiting → Waiting
@@ -81,6 +67,6 @@ module _ (l : Ties) where
 
 -- Every link of the first m names two of at most 256 pieces.
 pub record Named (m : ℕ) (befores afters : List ℕ) : Type 0 where
-  pub few : m < 1025
+  pub few : m ≤ 1024
   pub before-one : (k : ℕ) → k < m → getD befores k 0 < 256
   pub after-one : (k : ℕ) → k < m → getD afters k 0 < 256

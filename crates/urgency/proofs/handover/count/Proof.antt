@@ -2,13 +2,13 @@ use Prim.Native.Nat.{_≤_, _<_, _-_}
 use mathlib.Core.Path.{_≡_, refl, sym, ap, _∙_}
 use native.Mathlib.Omega.{arith}
 use lib.ListN.{length, getD, length-set}
-use Rattle.urgency.specs.Links.{intoOf}
-use Rattle.urgency.proofs.Chains.{Counted, into-most, count-more}
+use Rattle.steps.specs.Handover.{intoOf}
+use Rattle.urgency.proofs.Counted.{Counted, into-most, count-more}
 use borrow.Author.Needs.{needs}
-use Rattle.urgency.proofs.links.count.Statement.{statement}
-use Rattle.urgency.proofs.links.count.Tie as tie
-use Rattle.urgency.proofs.links.count.Reads as reads
-use Rattle.urgency.proofs.links.count.Lts as lts
+use Rattle.urgency.proofs.handover.count.Statement.{statement}
+use Rattle.urgency.proofs.handover.count.Tie as tie
+use Rattle.urgency.proofs.handover.count.Reads as reads
+use Rattle.urgency.proofs.handover.count.Lts as lts
 
 abbrev Inv-loop : tie.InvT-loop
 Inv-loop m afters waits₀ k₀ waits k = (k ≤ m) × (length waits ≡ 256) × Counted afters waits k
@@ -60,11 +60,10 @@ loop-less c = omega arith
 loop-again : tie.Need-loop-again Inv-loop μ-loop
 loop-again c =
     let a = c .before .before .before .before .args in
-    let l = c .before .before .before .loop in (
-      omega arith,
-      simp length-set (l .inv .1),
-      count-more (a .afters .now) (l .waits) (l .k) (l .inv .1) (after-in (c .before .before)) (l .inv .2),
-    )
+    let l = c .before .before .before .loop in
+    ( omega arith
+    , simp length-set (l .inv .1)
+    , count-more (a .afters .now) (l .waits) (l .k) (l .inv .1) (after-in (c .before .before)) (l .inv .2))
 
 returns : tie.Need-returns Inv-loop μ-loop
 returns c = let e : c .before .loop .k ≡ c .before .before .args .m = omega arith in rw e at (c .before .loop .inv .2)

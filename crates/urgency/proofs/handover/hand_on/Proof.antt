@@ -1,13 +1,13 @@
 use mathlib.Core.Path.{_∙_}
 use native.Mathlib.Omega.{arith}
-use Rattle.urgency.specs.Links.{ties, waiting}
+use Rattle.steps.specs.Handover.{ties, waiting}
 use Rattle.urgency.proofs.Passed.{nobody-hands, unfinished-hands, finished-hands}
 use borrow.Author.Needs.{needs}
-use Rattle.urgency.proofs.links.hand_on.Statement.{statement}
-use Rattle.urgency.proofs.links.hand_on.Tie as tie
-use Rattle.urgency.proofs.links.hand_on.Reads as reads
-use Rattle.urgency.proofs.links.hand_on.Lts as lts
-use Rattle.urgency.proofs.links.pass_on.Reads as pass-on-reads
+use Rattle.urgency.proofs.handover.hand_on.Statement.{statement}
+use Rattle.urgency.proofs.handover.hand_on.Tie as tie
+use Rattle.urgency.proofs.handover.hand_on.Reads as reads
+use Rattle.urgency.proofs.handover.hand_on.Lts as lts
+use Rattle.urgency.proofs.handover.pass_on.Reads as pass-on-reads
 
 returns : tie.Need-returns
 returns c =
@@ -35,7 +35,7 @@ returns-3 c =
     let a = c .before .before .before .before .before .before .args in
     c .pass-on .ensures
     ∙ finished-hands (ties (a .desks .now) (a .befores .now) (a .afters .now) (a .handovers .now)) (a .m) (a .c) (a .left .now) (a .i) (waiting (a .waits .now) (a .ready .now)) (c .before .before .before .before .before .if1 .left)
-    (c .before .before .before .if2 .left)
+      (c .before .before .before .if2 .left)
 
 pub hand-on-spec : {M : Type 1} → statement M
 hand-on-spec =

@@ -2,10 +2,10 @@ use mathlib.Core.Path.{sym}
 use native.Mathlib.Omega.{arith}
 use borrow.Author.Tests.{eq-eqb, ne-eqb}
 use Rattle.laws.proofs.Words.{when-true, when-false}
-use Rattle.urgency.proofs.links.delay.Statement.{statement}
-use Rattle.urgency.proofs.links.delay.Tie as tie
-use Rattle.urgency.proofs.links.delay.Reads as reads
-use Rattle.urgency.proofs.links.delay.Lts as lts
+use Rattle.urgency.proofs.handover.delay.Statement.{statement}
+use Rattle.urgency.proofs.handover.delay.Tie as tie
+use Rattle.urgency.proofs.handover.delay.Reads as reads
+use Rattle.urgency.proofs.handover.delay.Lts as lts
 
 returns : tie.Need-returns
 returns c = (sym (when-true _ _ _ (eq-eqb _ _ (c .if1 .taken))), omega arith)

@@ -38,7 +38,7 @@ module _ (t next : ℕ) where
   noteOn d i l =
       when (ltb i 256)
       (when (stays (l .piece) (l .until) (getD (l .last) d 0) i t) (lengthened (getD (l .last) d 0) l)
-      (when (ltb (l .runs) 512) (begun d i l) l))
+        (when (ltb (l .runs) 512) (begun d i l) l))
       l
 
   -- The same for the first d desks.
@@ -57,6 +57,5 @@ runAt piece from until k = record {
 }
 
 unfoldable pub loggedRuns : List ℕ → List ℕ → List ℕ → List ℕ → ℕ → ℕ → List Run
-unfolding keep below
 loggedRuns desks piece from until runs d =
     map (runAt piece from until) (keep (λ k. eqb (getD desks (getD piece k 0) 0) d) (below runs))

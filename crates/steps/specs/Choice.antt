@@ -3,6 +3,7 @@
 use Prim.Native.Nat.{ℕ, zero, suc, _+_, min}
 use mathlib.Core.Bool.{Bool, true, _&&_}
 use mathlib.Core.List.{List}
+use mathlib.Core.Option.{Option, none, some}
 use lib.Dec.{leb, ltb, eqb}
 use lib.IntN.{ℤ, pos}
 use lib.ListN.{getD, set, replicate}
@@ -80,3 +81,8 @@ choiceOf v n = chosenFrom v n (replicate 32 256)
 
 unfoldable pub nextOf : View → ℕ → ℕ
 nextOf v n = endNext (v .moment) (v .left) (choiceOf v n) 32 (readyNext v n never)
+
+-- The number that stands for who a desk works on.
+unfoldable pub codeOf : Option ℕ → ℕ
+codeOf none = 256
+codeOf (some i) = i

@@ -1,12 +1,14 @@
 // What the links do to the pieces: how many unfinished pieces a piece waits for, and from when on it may be ready. A link
 // is looked at once, when the piece before it is finished.
 use crate::work;
+
 ghost use mathlib.Core.Path.{_≡_};
 ghost use Prim.Native.Nat.{ℕ, _-_, _<_, _≤_, max};
 ghost use lib.Dec.{eqb};
 ghost use lib.ListN.{length, getD};
 ghost use Rattle.rules.specs.Words.{when};
-ghost use Rattle.urgency.specs.Links.{intoOf, Chained, Named, ties, waiting, passed, passFrom, handOn, handTo};
+ghost use Rattle.links.specs.Chains.{Chained};
+ghost use Rattle.steps.specs.Handover.{intoOf, Named, ties, waiting, passed, passFrom, handOn, handTo};
 
 // Counts for every piece the links into it.
 pub fn count(m: usize, afters: &[u16; 1024], waits: &mut [u32; 256])
@@ -19,28 +21,6 @@ pub fn count(m: usize, afters: &[u16; 1024], waits: &mut [u32; 256])
         let a = afters[k] as usize;
         waits[a] = waits[a] + 1;
         k += 1;
-    }
-}
-
-// Chains the links of each piece before: `first` has the place of its first link, `following` for each link the next of the
-// same piece, 1024 where there is none.
-pub fn chain(
-    m: usize,
-    befores: &[u16; 1024],
-    first: &mut [usize; 256],
-    following: &mut [usize; 1024],
-)
-    requires { ⌜ (m ≤ 1024) × ((k : ℕ) → k < m → getD (now befores) k 0 < 256) ⌝ }
-    requires { ⌜ (length (now first) ≡ 256) × (length (now following) ≡ 1024) ⌝ }
-    requires { ⌜ ((p : ℕ) → p < 256 → getD (now first) p 0 ≡ 1024) ⌝ }
-    ensures { λ _. ⌜ Chained m (now (befores .entry)) (now (first .exit)) (now (following .exit)) ⌝ }
-{
-    let mut k = m;
-    while 0 < k {
-        k -= 1;
-        let p = befores[k] as usize;
-        following[k] = first[p];
-        first[p] = k;
     }
 }
 
@@ -83,13 +63,17 @@ fn pass(
     let b = befores[k] as usize;
     let a = afters[k] as usize;
     waits[a] = one_less(waits[a]);
-    ready[a] = later(
-        ready[a],
-        c + delay(desks[b], desks[a], work::wide(handovers[k])),
-    );
+    ready[a] = later(ready[a], c + delay(desks[b], desks[a], work::wide(handovers[k])));
 }
 
-// Piece p was finished at moment c: each of its links is looked at.
+// A link's place, or one more, out of the chains.
+fn place(x: u16) -> usize
+    ensures { λ r. ⌜ r ≡ x ⌝ }
+{
+    x as usize
+}
+
+// Piece p was finished at moment c: each of its links is looked at, along their chain.
 fn pass_on(
     m: usize,
     p: usize,
@@ -98,21 +82,22 @@ fn pass_on(
     befores: &[u16; 1024],
     afters: &[u16; 1024],
     handovers: &[u16; 1024],
-    first: &[usize; 256],
-    following: &[usize; 1024],
+    last: &[u16; 256],
+    prior: &[u16; 1024],
     waits: &mut [u32; 256],
     ready: &mut [u32; 256],
 )
     requires { ⌜ Named m (now befores) (now afters) ⌝ }
-    requires { ⌜ Chained m (now befores) (now first) (now following) ⌝ }
+    requires { ⌜ Chained (now befores) m (now last) (now prior) ⌝ }
     requires { ⌜ (p < 256) × (c < 4000000000) ⌝ }
     ensures { λ _. ⌜ waiting (now (waits .exit)) (now (ready .exit))
-        ≡ passFrom (ties (now (desks .entry)) (now (befores .entry)) (now (afters .entry)) (now (handovers .entry))) p c 0 m (waiting (now (waits .entry)) (now (ready .entry))) ⌝ }
+        ≡ passFrom (ties (now (desks .entry)) (now (befores .entry)) (now (afters .entry)) (now (handovers .entry))) p c m (waiting (now (waits .entry)) (now (ready .entry))) ⌝ }
 {
-    let mut k = first[p];
-    while k < m {
+    let mut next = place(last[p]);
+    while 0 < next {
+        let k = next - 1;
         pass(k, c, desks, befores, afters, handovers, waits, ready);
-        k = following[k];
+        next = place(prior[k]);
     }
 }
 
@@ -125,14 +110,14 @@ fn hand_on(
     befores: &[u16; 1024],
     afters: &[u16; 1024],
     handovers: &[u16; 1024],
-    first: &[usize; 256],
-    following: &[usize; 1024],
+    last: &[u16; 256],
+    prior: &[u16; 1024],
     left: &[u32; 256],
     waits: &mut [u32; 256],
     ready: &mut [u32; 256],
 )
     requires { ⌜ Named m (now befores) (now afters) ⌝ }
-    requires { ⌜ Chained m (now befores) (now first) (now following) ⌝ }
+    requires { ⌜ Chained (now befores) m (now last) (now prior) ⌝ }
     requires { ⌜ c < 4000000000 ⌝ }
     ensures { λ _. ⌜ waiting (now (waits .exit)) (now (ready .exit))
         ≡ handOn (ties (now (desks .entry)) (now (befores .entry)) (now (afters .entry)) (now (handovers .entry))) m c (now (left .entry)) i (waiting (now (waits .entry)) (now (ready .entry))) ⌝ }
@@ -143,19 +128,7 @@ fn hand_on(
     if 0 < left[i] {
         return;
     }
-    pass_on(
-        m,
-        i,
-        c,
-        desks,
-        befores,
-        afters,
-        handovers,
-        first,
-        following,
-        waits,
-        ready,
-    );
+    pass_on(m, i, c, desks, befores, afters, handovers, last, prior, waits, ready);
 }
 
 // The same for the pieces that the desks chose.
@@ -166,35 +139,22 @@ pub fn hand_all(
     befores: &[u16; 1024],
     afters: &[u16; 1024],
     handovers: &[u16; 1024],
-    first: &[usize; 256],
-    following: &[usize; 1024],
+    last: &[u16; 256],
+    prior: &[u16; 1024],
     chosen: &[usize; 32],
     left: &[u32; 256],
     waits: &mut [u32; 256],
     ready: &mut [u32; 256],
 )
     requires { ⌜ Named m (now befores) (now afters) ⌝ }
-    requires { ⌜ Chained m (now befores) (now first) (now following) ⌝ }
+    requires { ⌜ Chained (now befores) m (now last) (now prior) ⌝ }
     requires { ⌜ c < 4000000000 ⌝ }
     ensures { λ _. ⌜ waiting (now (waits .exit)) (now (ready .exit))
         ≡ handTo (ties (now (desks .entry)) (now (befores .entry)) (now (afters .entry)) (now (handovers .entry))) m c (now (left .entry)) (now (chosen .entry)) 32 (waiting (now (waits .entry)) (now (ready .entry))) ⌝ }
 {
     let mut d = 0;
     while d < 32 {
-        hand_on(
-            m,
-            chosen[d],
-            c,
-            desks,
-            befores,
-            afters,
-            handovers,
-            first,
-            following,
-            left,
-            waits,
-            ready,
-        );
+        hand_on(m, chosen[d], c, desks, befores, afters, handovers, last, prior, left, waits, ready);
         d += 1;
     }
 }
