@@ -19,7 +19,7 @@ use Rattle.records.proofs.Stores.{sets-on}
 use Rattle.output.specs.Written.{resultIn, resultsIn, deskRunsIn, runsIn, Logged}
 
 module _ (desks starts finishes : List ℕ) (latests : List ℤ) where
-  result-is : (i : ℕ) → resultIn desks starts finishes latests i
+  pub result-is : (i : ℕ) → resultIn desks starts finishes latests i
       ≡ planRecord 17 (getD desks i 0) i (word (getD starts i 0)) (word (getD finishes i 0)) (signedWord (getD latests i (pos 0)))
   unfolding resultIn
   result-is i = refl
@@ -78,7 +78,7 @@ module _ (desks pieces froms untils : List ℕ) (d : ℕ) where
 
   pub run-passed : (k : ℕ) → eqb (getD desks (getD pieces k 0) 0) d ≡ false
       → deskRunsIn (suc k) desks pieces froms untils d ≡ deskRunsIn k desks pieces froms untils d
-  unfolding deskRunsIn loggedRuns
+  unfolding deskRunsIn loggedRuns keep below
   run-passed k e =
       ap (λ l. joined (map (runRecord d) (map (runAt pieces froms untils) l)))
       (not-kept-more (λ k. eqb (getD desks (getD pieces k 0) 0) d) k e)
@@ -120,7 +120,7 @@ module _ (desks pieces froms untils : List ℕ) (d : ℕ) where
   run-is k = refl
 
   pub none-logged : (b : List ℕ) (at : ℕ) → Logged desks pieces froms untils d b at 0 b at
-  unfolding deskRunsIn loggedRuns
+  unfolding deskRunsIn loggedRuns keep below
   none-logged b at = record { same = refl; bytes = refl; past = omega arith }
 
   pub one-logged : (b : List ℕ) (at k : ℕ) (buf buf′ : List ℕ) (next : ℕ) → Logged desks pieces froms untils d b at k buf next

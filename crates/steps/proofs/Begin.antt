@@ -41,14 +41,14 @@ into-links befores afters handovers i (suc m) =
     let f : ℕ → Link = linkIn befores afters handovers in
     let ih : intoOf afters i m ≡ linksAt i (map f (below m)) = into-links befores afters handovers i m in
     let e : linksAt i (map f (below (suc m))) ≡ linksAt i (map f (below m)) + when (eqb (getD afters m 0) i) 1 0 =
-        ap (linksAt i) (ap (map f) (below-more m) ∙ map-append f (below m) (m ∷ [])) ∙ at-more i (map f (below m)) (f m) in
+    ap (linksAt i) (ap (map f) (below-more m) ∙ map-append f (below m) (m ∷ [])) ∙ at-more i (map f (below m)) (f m) in
     omega arith
 
 module _ (J : Job) (sound : Sound J) (n : ℕ) (count : pieceCount J ≡ n) where
   pub begun-work : (durations : List ℕ) → ((i : ℕ) → i < n → duration J i ≡ getD durations i 0) → (w : Work)
-    → length (w .left) ≡ 256 → length (w .start) ≡ 256 → length (w .finish) ≡ 256
-    → ((i : ℕ) → i < n → getD (w .left) i 0 ≡ getD durations i 0) → ((i : ℕ) → i < n → getD (w .start) i 0 ≡ 0)
-    → ((i : ℕ) → i < n → getD (w .finish) i 0 ≡ 0) → WorkHeld n (at J 0) w
+      → length (w .left) ≡ 256 → length (w .start) ≡ 256 → length (w .finish) ≡ 256
+      → ((i : ℕ) → i < n → getD (w .left) i 0 ≡ getD durations i 0) → ((i : ℕ) → i < n → getD (w .start) i 0 ≡ 0)
+      → ((i : ℕ) → i < n → getD (w .finish) i 0 ≡ 0) → WorkHeld n (at J 0) w
   begun-work durations d w a b c l s f = record {
     left-sized = a;
     start-sized = b;
@@ -65,9 +65,9 @@ module _ (J : Job) (sound : Sound J) (n : ℕ) (count : pieceCount J ≡ n) wher
       (omega (arith, ap (λ p. p .left) (work-start J (k .before)), fits J sound (k .before) (link-fit J sound k m .before-one) .duration-least))
 
   pub begun-waits : (m : ℕ) (releases befores afters handovers : List ℕ) → ((i : ℕ) → i < n → piece J i .release ≡ getD releases i 0)
-    → J .links ≡ map (linkIn befores afters handovers) (below m) → (s : Waiting)
-    → length (s .waits) ≡ 256 → length (s .ready) ≡ 256 → ((i : ℕ) → i < n → getD (s .waits) i 0 ≡ intoOf afters i m)
-    → ((i : ℕ) → i < n → getD (s .ready) i 0 ≡ getD releases i 0) → WaitHeld J n (at J 0) s
+      → J .links ≡ map (linkIn befores afters handovers) (below m) → (s : Waiting)
+      → length (s .waits) ≡ 256 → length (s .ready) ≡ 256 → ((i : ℕ) → i < n → getD (s .waits) i 0 ≡ intoOf afters i m)
+      → ((i : ℕ) → i < n → getD (s .ready) i 0 ≡ getD releases i 0) → WaitHeld J n (at J 0) s
   unfolding waitsOf readyOf
   begun-waits m releases befores afters handovers r k s a b w y = record {
     waits-sized = a;
@@ -79,8 +79,8 @@ module _ (J : Job) (sound : Sound J) (n : ℕ) (count : pieceCount J ≡ n) wher
 
   -- The log is empty.
   pub begun-log : (desks : List ℕ) (l : Log) → l .runs ≡ 0 → length (l .last) ≡ 32 → length (l .piece) ≡ 512
-    → length (l .from) ≡ 512 → length (l .until) ≡ 512 → ((d : ℕ) → d < 32 → getD (l .last) d 0 ≡ 512)
-    → LogHeld J n desks (λ d. 0) l
+      → length (l .from) ≡ 512 → length (l .until) ≡ 512 → ((d : ℕ) → d < 32 → getD (l .last) d 0 ≡ 512)
+      → LogHeld J n desks (λ d. 0) l
   unfolding LastRun runsUntil
   begun-log desks l z a b c e last = record {
     last-sized = a;

@@ -44,9 +44,10 @@ module _ (J : Job) (n : ℕ) (v : View) (s : Shown J n v) where
   pub due-facts : (i : ℕ) → i < n → isDue v i ≡ true → (0 < at J (v .moment) i .left) × (waitsOf J (at J (v .moment)) i ≡ 0)
   unfolding isDue
   due-facts i h e =
-      let w = and-true (ltb 0 (getD (v .left) i 0)) (eqb (getD (v .waits) i 0) 0) e in
-      ( rw (s .left-is i h) at (ltb-true 0 (getD (v .left) i 0) (w .0))
-      , sym (s .waits-is i h) ∙ eqb-true (getD (v .waits) i 0) 0 (w .1))
+      let w = and-true (ltb 0 (getD (v .left) i 0)) (eqb (getD (v .waits) i 0) 0) e in (
+        rw (s .left-is i h) at (ltb-true 0 (getD (v .left) i 0) (w .0)),
+        sym (s .waits-is i h) ∙ eqb-true (getD (v .waits) i 0) 0 (w .1),
+      )
 
   pub facts-due : (i : ℕ) → i < n → 0 < at J (v .moment) i .left → waitsOf J (at J (v .moment)) i ≡ 0 → isDue v i ≡ true
   unfolding isDue
@@ -90,9 +91,12 @@ module _ (J : Job) (n : ℕ) (v : View) (s : Shown J n v) where
   -- Piece k is not one that desk d could choose.
   passed-over : (k d x : ℕ) → Found k d x → (desk J k ≡ d → fit k ≡ true → ⊥) → Found (suc k) d x
   unfolding Found
-  passed-over k d x (inl w) not = inl (w .0, λ i h. by-test (ltb i k)
-      (λ e. w .1 i (ltb-true i k e))
-      (λ e. let q : i ≡ k = omega (arith, ltb-false i k e) in rw q not))
+  passed-over k d x (inl w) not = inl (
+    w .0,
+    λ i h. by-test (ltb i k)
+        (λ e. w .1 i (ltb-true i k e))
+        (λ e. let q : i ≡ k = omega (arith, ltb-false i k e) in rw q not),
+  )
   passed-over k d x (inr b) not = inr (record {
     inside = omega (arith, b .inside);
     on-desk = b .on-desk;
@@ -130,8 +134,8 @@ module _ (J : Job) (n : ℕ) (v : View) (s : Shown J n v) where
     fits = f;
     first = λ j h r g ne. by-test (ltb j k)
         (λ z. by-test (eqb j x)
-          (λ y. rw (eqb-true j x y) (e (b .inside)))
-          (λ y. sooner-trans J k x j (e (b .inside)) (b .first j (ltb-true j k z) r g (eqb-false j x y))))
+        (λ y. rw (eqb-true j x y) (e (b .inside)))
+        (λ y. sooner-trans J k x j (e (b .inside)) (b .first j (ltb-true j k z) r g (eqb-false j x y))))
         (λ z. absurd (ne (omega (arith, ltb-false j k z))));
   }
 
@@ -152,8 +156,8 @@ module _ (J : Job) (n : ℕ) (v : View) (s : Shown J n v) where
       let D = chosenFrom v k C in
       by-test (isDue v k && leb (getD (v .ready) k 0) (v .moment))
       (λ e. by-test (goesFirst (v .latests) k (getD D (getD (v .desks) k 0) 0))
-        (λ g. rw (e, g, when) (length-set D (getD (v .desks) k 0) k ∙ ih))
-        (λ g. rw (e, g, when) ih))
+      (λ g. rw (e, g, when) (length-set D (getD (v .desks) k 0) k ∙ ih))
+      (λ g. rw (e, g, when) ih))
       (λ e. rw (e, when) ih)
 
   -- One piece more, for its own desk and for the others.
@@ -181,7 +185,7 @@ module _ (J : Job) (n : ℕ) (v : View) (s : Shown J n v) where
     unfolding offered Found
     own-found f w = by-test goes
         (λ g. rw (when-true goes (set D own k) D g, getD-set-same D own k 0 (omega (arith, s .desk-most k h)))
-          (inr (taken k own (getD D own 0) w (s .desk-is k h) f (λ l. goes-before k (getD D own 0) h l (sym (goes-latest l) ∙ g)))))
+        (inr (taken k own (getD D own 0) w (s .desk-is k h) f (λ l. goes-before k (getD D own 0) h l (sym (goes-latest l) ∙ g)))))
         (λ g. rw (when-false goes (set D own k) D g) (kept g w))
       where
         kept : goes ≡ false → Found k own (getD D own 0) → Found (suc k) own (getD D own 0)
@@ -192,7 +196,7 @@ module _ (J : Job) (n : ℕ) (v : View) (s : Shown J n v) where
     unfolding offered
     other-found d ne w = by-test goes
         (λ g. rw (when-true goes (set D own k) D g, getD-set-other D own d k 0 (λ z. ne (sym z)))
-          (passed-over k d (getD D d 0) w (λ q f. other-desk d q ne)))
+        (passed-over k d (getD D d 0) w (λ q f. other-desk d q ne)))
         (λ g. rw (when-false goes (set D own k) D g) (passed-over k d (getD D d 0) w (λ q f. other-desk d q ne)))
 
     offered-found : (d : ℕ) → fit k ≡ true → Found k d (getD D d 0) → Found (suc k) d (getD (offered (v .latests) k own D) d 0)
@@ -205,7 +209,7 @@ module _ (J : Job) (n : ℕ) (v : View) (s : Shown J n v) where
     considered-found d w = by-test (fit k)
         (λ e. rw (when-true (fit k) (offered (v .latests) k own D) D e) (offered-found d e w))
         (λ e. rw (when-false (fit k) (offered (v .latests) k own D) D e)
-          (passed-over k d (getD D d 0) w (λ q f. true-or-false (sym f ∙ e))))
+        (passed-over k d (getD D d 0) w (λ q f. true-or-false (sym f ∙ e))))
 
   abbrev nobody : List ℕ
   nobody = replicate 32 256
@@ -221,7 +225,7 @@ module _ (J : Job) (n : ℕ) (v : View) (s : Shown J n v) where
   unfolding worked codeOf Found
   coded d x (inl w) =
       w .0 ∙ ap codeOf (sym (resting-choice J (workAt J (v .moment)) d (v .moment)
-        (λ i u. w .1 i (rw (s .count) at (u .inside)) (u .on-desk) (waits-fit d i u))))
+      (λ i u. w .1 i (rw (s .count) at (u .inside)) (u .on-desk) (waits-fit d i u))))
   coded d x (inr b) =
       ap codeOf (sym (chosen-choice J (workAt J (v .moment)) d (v .moment) x (record {
         opened = always-open J d (v .moment);

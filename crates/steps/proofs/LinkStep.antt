@@ -31,7 +31,7 @@ use Rattle.steps.proofs.Moved.{momentOf, moment-early, moment-late, sta
 -- What links ask, with one link more behind them.
 module _ (J : Job) (p c i : ℕ) where
   to-more : (ls : List Link) (l : Link)
-    → linksTo p i (ls ++ (l ∷ [])) ≡ linksTo p i ls + when (eqb (l .before) p && eqb (l .after) i) 1 0
+      → linksTo p i (ls ++ (l ∷ [])) ≡ linksTo p i ls + when (eqb (l .before) p && eqb (l .after) i) 1 0
   unfolding linksTo
   to-more [] l = omega arith
   to-more (x ∷ ls) l =
@@ -39,12 +39,12 @@ module _ (J : Job) (p c i : ℕ) where
       omega arith
 
   asked-more : (ls : List Link) (l : Link)
-    → askedBy J p c i (ls ++ (l ∷ [])) ≡ max (askedBy J p c i ls) (when (eqb (l .before) p && eqb (l .after) i) (c + delay J l) 0)
+      → askedBy J p c i (ls ++ (l ∷ [])) ≡ max (askedBy J p c i ls) (when (eqb (l .before) p && eqb (l .after) i) (c + delay J l) 0)
   unfolding askedBy
   asked-more [] l = omega arith
   asked-more (x ∷ ls) l =
       let ih : askedBy J p c i (ls ++ (l ∷ []))
-          ≡ max (askedBy J p c i ls) (when (eqb (l .before) p && eqb (l .after) i) (c + delay J l) 0) = asked-more ls l in
+      ≡ max (askedBy J p c i ls) (when (eqb (l .before) p && eqb (l .after) i) (c + delay J l) 0) = asked-more ls l in
       omega arith
 
 -- A table after one store.
@@ -63,15 +63,15 @@ module _ (l : Ties) (c k i : ℕ) (s : Waiting) where
   unfolding when
   passed-waits h = by-test (eqb target i)
       (λ e. let z : target ≡ i = eqb-true target i e in
-        set-at (s .waits) target (getD (s .waits) target 0 - 1) i h ∙ rw (e, z))
+      set-at (s .waits) target (getD (s .waits) target 0 - 1) i h ∙ rw (e, z))
       (λ e. set-at (s .waits) target (getD (s .waits) target 0 - 1) i h ∙ rw e (omega arith))
 
   passed-ready : i < length (s .ready)
-    → getD (passed l c k s .ready) i 0 ≡ max (getD (s .ready) i 0) (when (eqb target i) (c + delayOf l k) 0)
+      → getD (passed l c k s .ready) i 0 ≡ max (getD (s .ready) i 0) (when (eqb target i) (c + delayOf l k) 0)
   unfolding when
   passed-ready h = by-test (eqb target i)
       (λ e. let z : target ≡ i = eqb-true target i e in
-        set-at (s .ready) target (max (getD (s .ready) target 0) (c + delayOf l k)) i h ∙ rw (e, z))
+      set-at (s .ready) target (max (getD (s .ready) target 0) (c + delayOf l k)) i h ∙ rw (e, z))
       (λ e. set-at (s .ready) target (max (getD (s .ready) target 0) (c + delayOf l k)) i h ∙ rw e (omega arith))
 
 -- The tables of n pieces say what they wait for.
@@ -109,14 +109,14 @@ module _ (J : Job) (sound : Sound J) (n m : ℕ) (l : Ties) (count : pieceCount 
         (λ e. rw e (refl, refl))
 
     one-waits : (k i : ℕ) (s : Waiting) → i < length (s .waits)
-      → getD (one k s .waits) i 0 ≡ getD (s .waits) i 0 - when (eqb (link k .before) p && eqb (link k .after) i) 1 0
+        → getD (one k s .waits) i 0 ≡ getD (s .waits) i 0 - when (eqb (link k .before) p && eqb (link k .after) i) 1 0
     unfolding one linkIn when
     one-waits k i s h = by-test (eqb (getD (l .befores) k 0) p)
         (λ e. rw e (passed-waits l c k i s h))
         (λ e. rw e (omega arith))
 
     one-ready : (k i : ℕ) (s : Waiting) → k < m → i < length (s .ready)
-      → getD (one k s .ready) i 0
+        → getD (one k s .ready) i 0
         ≡ max (getD (s .ready) i 0) (when (eqb (link k .before) p && eqb (link k .after) i) (c + delay J (link k)) 0)
     unfolding one linkIn when
     one-ready k i s b h = by-test (eqb (getD (l .befores) k 0) p)
@@ -127,7 +127,7 @@ module _ (J : Job) (sound : Sound J) (n m : ℕ) (l : Ties) (count : pieceCount 
     links-more k = ap (map link) (below-more k) ∙ map-append link (below k) (k ∷ [])
 
     pass-sized : (k : ℕ) (s : Waiting)
-      → (length (passFrom l p c k s .waits) ≡ length (s .waits)) × (length (passFrom l p c k s .ready) ≡ length (s .ready))
+        → (length (passFrom l p c k s .waits) ≡ length (s .waits)) × (length (passFrom l p c k s .ready) ≡ length (s .ready))
     unfolding passFrom one
     pass-sized zero s = (refl, refl)
     pass-sized (suc k) s =
@@ -136,30 +136,30 @@ module _ (J : Job) (sound : Sound J) (n m : ℕ) (l : Ties) (count : pieceCount 
         (ih .0 ∙ o .0, ih .1 ∙ o .1)
 
     pass-waits : (k i : ℕ) (s : Waiting) → k ≤ m → i < length (s .waits)
-      → getD (passFrom l p c k s .waits) i 0 ≡ getD (s .waits) i 0 - linksTo p i (map link (below k))
+        → getD (passFrom l p c k s .waits) i 0 ≡ getD (s .waits) i 0 - linksTo p i (map link (below k))
     unfolding passFrom linksTo below one
     pass-waits zero i s b h = omega arith
     pass-waits (suc k) i s b h =
         let ih : getD (passFrom l p c k (one k s) .waits) i 0 ≡ getD (one k s .waits) i 0 - linksTo p i (map link (below k)) =
-            pass-waits k i (one k s) (omega arith) (rw (one-sized k s .0) h) in
+        pass-waits k i (one k s) (omega arith) (rw (one-sized k s .0) h) in
         omega (arith, one-waits k i s h, to-more J p c i (map link (below k)) (link k), ap (linksTo p i) (links-more k))
 
     pass-ready : (k i : ℕ) (s : Waiting) → k ≤ m → i < length (s .ready)
-      → getD (passFrom l p c k s .ready) i 0 ≡ max (getD (s .ready) i 0) (askedBy J p c i (map link (below k)))
+        → getD (passFrom l p c k s .ready) i 0 ≡ max (getD (s .ready) i 0) (askedBy J p c i (map link (below k)))
     unfolding passFrom askedBy below one
     pass-ready zero i s b h = omega arith
     pass-ready (suc k) i s b h =
         let ih : getD (passFrom l p c k (one k s) .ready) i 0 ≡ max (getD (one k s .ready) i 0) (askedBy J p c i (map link (below k))) =
-            pass-ready k i (one k s) (omega arith) (rw (one-sized k s .1) h) in
+        pass-ready k i (one k s) (omega arith) (rw (one-sized k s .1) h) in
         omega (arith, one-ready k i s b h, asked-more J p c i (map link (below k)) (link k), ap (askedBy J p c i) (links-more k))
 
   -- The same pieces are finished, at the same moments.
   wait-alike : (P Q : ℕ → Progress) (s : Waiting) → ((i : ℕ) → i < n → done P i ≡ done Q i)
-    → ((i : ℕ) → i < n → P i .left ≡ 0 → P i .finish ≡ Q i .finish) → WaitHeld J n P s → WaitHeld J n Q s
+      → ((i : ℕ) → i < n → P i .left ≡ 0 → P i .finish ≡ Q i .finish) → WaitHeld J n P s → WaitHeld J n Q s
   unfolding waitsOf readyOf
   wait-alike P Q s d f h =
       let inside : (k : Link) → Mem k (J .links) → k .before < n =
-          λ k q. rw count at (link-fit J sound k q .before-one) in
+      λ k q. rw count at (link-fit J sound k q .before-one) in
       record {
         waits-sized = h .waits-sized;
         ready-sized = h .ready-sized;
@@ -170,7 +170,7 @@ module _ (J : Job) (sound : Sound J) (n m : ℕ) (l : Ties) (count : pieceCount 
 
   -- Piece p is finished at moment c, and no other piece moves.
   wait-passed : (P Q : ℕ → Progress) (p c : ℕ) → 0 < P p .left → Q p .left ≡ 0 → Q p .finish ≡ c
-    → ((j : ℕ) → (j ≡ p → ⊥) → P j ≡ Q j) → (s : Waiting) → WaitHeld J n P s → WaitHeld J n Q (passFrom l p c m s)
+      → ((j : ℕ) → (j ≡ p → ⊥) → P j ≡ Q j) → (s : Waiting) → WaitHeld J n P s → WaitHeld J n Q (passFrom l p c m s)
   unfolding waitsOf readyOf
   wait-passed P Q p c was is at-c others s h =
       let z = pass-sized p c m s in
@@ -179,18 +179,18 @@ module _ (J : Job) (sound : Sound J) (n m : ℕ) (l : Ties) (count : pieceCount 
         ready-sized = z .1 ∙ h .ready-sized;
         waits-is = λ i b.
             let g : getD (passFrom l p c m s .waits) i 0 ≡ getD (s .waits) i 0 - linksTo p i (J .links) =
-                pass-waits p c m i s (omega arith) (omega (arith, h .waits-sized))
-                ∙ ap (λ ls. getD (s .waits) i 0 - linksTo p i ls) (sym links-are) in
+            pass-waits p c m i s (omega arith) (omega (arith, h .waits-sized))
+            ∙ ap (λ ls. getD (s .waits) i 0 - linksTo p i ls) (sym links-are) in
             let w : waitsFor P i (J .links) ≡ waitsFor Q i (J .links) + linksTo p i (J .links) =
-                finished-waits J P Q p c (left-undone P p was) is at-c others i (J .links) in
+            finished-waits J P Q p c (left-undone P p was) is at-c others i (J .links) in
             omega (arith, h .waits-is i b);
         ready-is = λ i b.
             let g : getD (passFrom l p c m s .ready) i 0 ≡ max (getD (s .ready) i 0) (askedBy J p c i (J .links)) =
-                pass-ready p c m i s (omega arith) (omega (arith, h .ready-sized))
-                ∙ ap (λ ls. max (getD (s .ready) i 0) (askedBy J p c i ls)) (sym links-are) in
+            pass-ready p c m i s (omega arith) (omega (arith, h .ready-sized))
+            ∙ ap (λ ls. max (getD (s .ready) i 0) (askedBy J p c i ls)) (sym links-are) in
             let w : readyBy J Q i (piece J i .release) (J .links)
-                ≡ max (readyBy J P i (piece J i .release) (J .links)) (askedBy J p c i (J .links)) =
-                finished-ready J P Q p c (left-undone P p was) is at-c others i (piece J i .release) (J .links) in
+            ≡ max (readyBy J P i (piece J i .release) (J .links)) (askedBy J p c i (J .links)) =
+            finished-ready J P Q p c (left-undone P p was) is at-c others i (piece J i .release) (J .links) in
             omega (arith, h .ready-is i b);
       }
 
@@ -225,32 +225,32 @@ module _ (J : Job) (sound : Sound J) (n m : ℕ) (l : Ties) (count : pieceCount 
           let g : 0 < then-at (suc d) i .left = rw (to, ← left-is i inside) f in
           wait-alike (then-at d) (then-at (suc d)) s
           (λ j b. by-test (eqb j i)
-            (λ z. rw (eqb-true j i z) (left-undone (then-at d) i unfinished ∙ sym (left-undone (then-at (suc d)) i g)))
-            (λ z. rw (others j (eqb-false j i z))))
+          (λ z. rw (eqb-true j i z) (left-undone (then-at d) i unfinished ∙ sym (left-undone (then-at (suc d)) i g)))
+          (λ z. rw (others j (eqb-false j i z))))
           (λ j b r. by-test (eqb j i)
-            (λ z. absurd (omega (arith, unfinished, rw (eqb-true j i z) at r)))
-            (λ z. ap (λ y. y .finish) (others j (eqb-false j i z))))
+          (λ z. absurd (omega (arith, unfinished, rw (eqb-true j i z) at r)))
+          (λ z. ap (λ y. y .finish) (others j (eqb-false j i z))))
           h
 
     -- Desk d moved on, by the code of its choice.
     hand-desk : (d x : ℕ) → x ≡ codeOf (worked J d t) → (s : Waiting) → WaitHeld J n (then-at d) s
-      → WaitHeld J n (then-at (suc d)) (handOn l m u left x s)
+        → WaitHeld J n (then-at (suc d)) (handOn l m u left x s)
     unfolding handOn codeOf
     hand-desk d x c s h = by-choice (worked J d t)
         (λ q. let z : x ≡ 256 = c ∙ ap codeOf q in
-          let same : (j : ℕ) → then-at d j ≡ then-at (suc d) j =
-              λ j. sym (unmoved J sound t u k e st d j (λ y. none-or-some (sym q ∙ y))) in
-          rw (le-ltb x 256 (omega arith), when)
-          (wait-alike (then-at d) (then-at (suc d)) s (λ j b. rw (same j)) (λ j b r. ap (λ y. y .finish) (same j)) h))
+        let same : (j : ℕ) → then-at d j ≡ then-at (suc d) j =
+        λ j. sym (unmoved J sound t u k e st d j (λ y. none-or-some (sym q ∙ y))) in
+        rw (le-ltb x 256 (omega arith), when)
+        (wait-alike (then-at d) (then-at (suc d)) s (λ j b. rw (same j)) (λ j b r. ap (λ y. y .finish) (same j)) h))
         (λ i q. let z : x ≡ i = c ∙ ap codeOf q in
-          let b : i < n = inside d i q s h in
-          by-test (eqb (getD left i 0) 0)
-          (λ y. rw (z, lt-ltb i 256 (omega arith), y, when) (finished-here d i q s h (eqb-true _ 0 y)))
-          (λ y. rw (z, lt-ltb i 256 (omega arith), y, when)
-            (not-finished-yet d i q s h (omega (arith, eqb-false (getD left i 0) 0 y)))))
+        let b : i < n = inside d i q s h in
+        by-test (eqb (getD left i 0) 0)
+        (λ y. rw (z, lt-ltb i 256 (omega arith), y, when) (finished-here d i q s h (eqb-true _ 0 y)))
+        (λ y. rw (z, lt-ltb i 256 (omega arith), y, when)
+        (not-finished-yet d i q s h (omega (arith, eqb-false (getD left i 0) 0 y)))))
 
     hand-desks : (chosen : List ℕ) → ((d : ℕ) → d < 32 → getD chosen d 0 ≡ codeOf (worked J d t)) → (d : ℕ) → d ≤ 32
-      → (s : Waiting) → WaitHeld J n (then-at 0) s → WaitHeld J n (then-at d) (handTo l m u left chosen d s)
+        → (s : Waiting) → WaitHeld J n (then-at 0) s → WaitHeld J n (then-at d) (handTo l m u left chosen d s)
     unfolding handTo
     hand-desks chosen c zero b s h = h
     hand-desks chosen c (suc d) b s h =
@@ -258,13 +258,13 @@ module _ (J : Job) (sound : Sound J) (n m : ℕ) (l : Ties) (count : pieceCount 
 
     -- All of them: the tables say what every piece waits for at moment u.
     pub hand-step : (chosen : List ℕ) → ((d : ℕ) → d < 32 → getD chosen d 0 ≡ codeOf (worked J d t))
-      → ((i : ℕ) → i < n → desk J i < 32) → (s : Waiting) → WaitHeld J n (at J t) s
-      → WaitHeld J n (at J u) (handTo l m u left chosen 32 s)
+        → ((i : ℕ) → i < n → desk J i < 32) → (s : Waiting) → WaitHeld J n (at J t) s
+        → WaitHeld J n (at J u) (handTo l m u left chosen 32 s)
     hand-step chosen c few-desks s h =
         let early : (i : ℕ) → at J t i ≡ then-at 0 i = λ i. ap (λ x. at J x i) (sym (moment-early t u 0 (desk J i) (omega arith))) in
         let late : (i : ℕ) → i < n → then-at 32 i ≡ at J u i =
-            λ i b. ap (λ x. at J x i) (moment-late t u 32 (desk J i) (few-desks i b)) in
+        λ i b. ap (λ x. at J x i) (moment-late t u 32 (desk J i) (few-desks i b)) in
         wait-alike (then-at 32) (at J u) (handTo l m u left chosen 32 s)
         (λ i b. rw (late i b)) (λ i b r. ap (λ y. y .finish) (late i b))
         (hand-desks chosen c 32 (omega arith) s
-          (wait-alike (at J t) (then-at 0) s (λ i b. rw (early i)) (λ i b r. ap (λ y. y .finish) (early i)) h))
+        (wait-alike (at J t) (then-at 0) s (λ i b. rw (early i)) (λ i b r. ap (λ y. y .finish) (early i)) h))

@@ -93,7 +93,7 @@ module _ (J : Job) (sound : Sound J) (n : ℕ) (desks : List ℕ) (t u k : ℕ) 
     pub room : l .runs < 512
     room =
         let early : momentOf t u d (desk J i) ≡ t =
-            moment-early t u d (desk J i) (omega (arith, worked-chosen J d t i q .waits .on-desk)) in
+        moment-early t u d (desk J i) (omega (arith, worked-chosen J d t i q .waits .on-desk)) in
         omega (arith, h .few, scores-less J n (momentOf t u d) i inside (rw early (worked-chosen J d t i q .waits .unfinished)))
 
     was : logged desks l d ≡ runsUntil J d t
@@ -157,10 +157,10 @@ module _ (J : Job) (sound : Sound J) (n : ℕ) (desks : List ℕ) (t u k : ℕ) 
           own = rw (same, old-piece desks l t u d i room (h .piece-sized) (h .from-sized) (h .until-sized) own-desk _ (y .below)) (y .own);
           latest = λ j a c. by-test (ltb j (l .runs))
               (λ z. let o = ltb-true j (l .runs) z in
-                old-own desks l t u d i room (h .piece-sized) (h .from-sized) (h .until-sized) own-desk f j o
-                ∙ y .latest j (rw same at a) o)
+              old-own desks l t u d i room (h .piece-sized) (h .from-sized) (h .until-sized) own-desk f j o
+              ∙ y .latest j (rw same at a) o)
               (λ z. let m : j ≡ l .runs = omega (arith, ltb-false j (l .runs) z) in
-                rw m (new-other desks l t u d i room (h .piece-sized) (h .from-sized) (h .until-sized) own-desk f ne));
+              rw m (new-other desks l t u d i room (h .piece-sized) (h .from-sized) (h .until-sized) own-desk f ne));
         })
 
     own-last : LastRun desks now d
@@ -187,15 +187,20 @@ module _ (J : Job) (sound : Sound J) (n : ℕ) (desks : List ℕ) (t u k : ℕ) 
           (λ z. others-last f (h .lasts f c) (eqb-false f d z));
       inside = λ j c. by-test (ltb j (l .runs))
           (λ z. let o = ltb-true j (l .runs) z in
-            rw (old-piece desks l t u d i room (h .piece-sized) (h .from-sized) (h .until-sized) own-desk j o) (h .inside j o))
+          rw (old-piece desks l t u d i room (h .piece-sized) (h .from-sized) (h .until-sized) own-desk j o) (h .inside j o))
           (λ z. let m : j ≡ l .runs = omega (arith, ltb-false j (l .runs) z) in
-            rw (m, new-piece desks l t u d i room (h .piece-sized) (h .from-sized) (h .until-sized) own-desk) inside);
+          rw (m, new-piece desks l t u d i room (h .piece-sized) (h .from-sized) (h .until-sized) own-desk) inside);
       forward = λ j c. by-test (ltb j (l .runs))
           (λ z. let o = ltb-true j (l .runs) z in
-            rw (old-from desks l t u d i room (h .piece-sized) (h .from-sized) (h .until-sized) own-desk j o,
-              old-until desks l t u d i room (h .piece-sized) (h .from-sized) (h .until-sized) own-desk j o) (h .forward j o))
+          rw (
+            old-from desks l t u d i room (h .piece-sized) (h .from-sized) (h .until-sized) own-desk j o,
+            old-until desks l t u d i room (h .piece-sized) (h .from-sized) (h .until-sized) own-desk j o,
+          ) (h .forward j o))
           (λ z. let m : j ≡ l .runs = omega (arith, ltb-false j (l .runs) z) in
-            rw (m, getD-set-same (l .from) (l .runs) t 0 (omega (arith, room, h .from-sized)),
-              getD-set-same (l .until) (l .runs) u 0 (omega (arith, room, h .until-sized))) (omega arith));
+          rw (
+            m,
+            getD-set-same (l .from) (l .runs) t 0 (omega (arith, room, h .from-sized)),
+            getD-set-same (l .until) (l .runs) u 0 (omega (arith, room, h .until-sized)),
+          ) (omega arith));
       few = one-more-fits;
     }

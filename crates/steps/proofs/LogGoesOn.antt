@@ -96,7 +96,7 @@ module _ (J : Job) (sound : Sound J) (n : ℕ) (desks : List ℕ) (t u k : ℕ) 
         last-logged desks (l .piece) (l .from) (now .until) d (l .runs) place (w .below) (w .own) (w .latest)
         ∙ rw (before-logged desks l t u place d, run-longer)
         (sym (grown-on before run i t k (goes-on run i t on .0) ended)
-          ∙ ap (λ rs. grown rs i t k) was ∙ sym (worked-runs J sound n desks t u k e p s count small desk-is d i q))
+        ∙ ap (λ rs. grown rs i t k) was ∙ sym (worked-runs J sound n desks t u k e p s count small desk-is d i q))
 
     other-runs : (f : ℕ) → (f ≡ d → ⊥) → logged desks now f ≡ logged desks l f
     other-runs f ne = other-logged desks l t u place d f (w .own) ne
@@ -122,7 +122,7 @@ module _ (J : Job) (sound : Sound J) (n : ℕ) (desks : List ℕ) (t u k : ℕ) 
       inside = h .inside;
       forward = λ j c. by-test (eqb j place)
           (λ z. let y : j ≡ place = eqb-true j place z in
-            rw (y, getD-set-same (l .until) place u 0 room) (omega (arith, h .forward place (w .below), ended)))
+          rw (y, getD-set-same (l .until) place u 0 room) (omega (arith, h .forward place (w .below), ended)))
           (λ z. rw (getD-set-other (l .until) place j u 0 (eqb-false j place z)) (h .forward j c));
       few = omega (arith, h .few, scores-grow J n t u k e p count d);
     }

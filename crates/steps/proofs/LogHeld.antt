@@ -86,5 +86,5 @@ module _ (J : Job) (sound : Sound J) (n : ℕ) (desks : List ℕ) (t u k : ℕ) 
       moved-same : (c : ℕ) → runsUntil J c (then-at d c) ≡ runsUntil J c (then-at (suc d) c)
       moved-same c = by-test (eqb c d)
           (λ z. let y : c ≡ d = eqb-true c d z in
-            rw (moment-early t u d c (omega arith), moment-late t u (suc d) c (omega arith), y) (sym (rested-runs d q)))
+          rw (moment-early t u d c (omega arith), moment-late t u (suc d) c (omega arith), y) (sym (rested-runs d q)))
           (λ z. rw (moment-other t u d c (eqb-false c d z)))

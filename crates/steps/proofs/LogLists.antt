@@ -39,14 +39,14 @@ module _ (desks piece from until : List ℕ) (d : ℕ) where
 
   -- One place more.
   pub own-more : (c : ℕ) → own c ≡ true
-    → loggedRuns desks piece from until (suc c) d ≡ loggedRuns desks piece from until c d ++ (run c ∷ [])
+      → loggedRuns desks piece from until (suc c) d ≡ loggedRuns desks piece from until c d ++ (run c ∷ [])
   unfolding loggedRuns keep
   own-more c e =
       rw (below-more c, keep-append own (below c) (c ∷ []))
       (map-append run (keep own (below c)) (keep own (c ∷ [])) ∙ rw (e, when))
 
   pub other-more : (c : ℕ) → own c ≡ false
-    → loggedRuns desks piece from until (suc c) d ≡ loggedRuns desks piece from until c d
+      → loggedRuns desks piece from until (suc c) d ≡ loggedRuns desks piece from until c d
   unfolding loggedRuns keep
   other-more c e =
       rw (below-more c, keep-append own (below c) (c ∷ []))
@@ -54,23 +54,23 @@ module _ (desks piece from until : List ℕ) (d : ℕ) where
 
   -- The desk's last run stands at place k.
   pub last-logged : (c k : ℕ) → k < c → own k ≡ true → ((j : ℕ) → k < j → j < c → own j ≡ false)
-    → loggedRuns desks piece from until c d ≡ loggedRuns desks piece from until k d ++ (run k ∷ [])
+      → loggedRuns desks piece from until c d ≡ loggedRuns desks piece from until k d ++ (run k ∷ [])
   last-logged zero k h e o = absurd (omega arith)
   last-logged (suc c) k h e o = by-test (eqb k c)
       (λ q. let z : k ≡ c = eqb-true k c q in rw z (own-more c (rw z at e)))
       (λ q. let ne = eqb-false k c q in
-        other-more c (o c (omega arith) (omega arith)) ∙ last-logged c k (omega arith) e (λ j a b. o j a (omega arith)))
+      other-more c (o c (omega arith) (omega arith)) ∙ last-logged c k (omega arith) e (λ j a b. o j a (omega arith)))
 
 -- Two logs that have the same pieces at each place, and the same runs of desk d.
 module _ (desks piece piece′ from from′ until until′ : List ℕ) (d : ℕ) where
   pub logged-same : (c : ℕ) → ((k : ℕ) → k < c → getD piece′ k 0 ≡ getD piece k 0)
-    → ((k : ℕ) → k < c → ownRun desks piece d k ≡ true → runAt piece′ from′ until′ k ≡ runAt piece from until k)
-    → loggedRuns desks piece′ from′ until′ c d ≡ loggedRuns desks piece from until c d
+      → ((k : ℕ) → k < c → ownRun desks piece d k ≡ true → runAt piece′ from′ until′ k ≡ runAt piece from until k)
+      → loggedRuns desks piece′ from′ until′ c d ≡ loggedRuns desks piece from until c d
   logged-same zero p r = none-logged desks piece′ from′ until′ d ∙ sym (none-logged desks piece from until d)
   logged-same (suc c) p r =
       let ih = logged-same c (λ k h. p k (omega arith)) (λ k h. r k (omega arith)) in
       by-test (ownRun desks piece d c)
       (λ e. own-more desks piece′ from′ until′ d c (rw (p c (omega arith)) e)
-        ∙ rw (ih, r c (omega arith) e) (sym (own-more desks piece from until d c e)))
+      ∙ rw (ih, r c (omega arith) e) (sym (own-more desks piece from until d c e)))
       (λ e. other-more desks piece′ from′ until′ d c (rw (p c (omega arith)) e)
-        ∙ ih ∙ sym (other-more desks piece from until d c e))
+      ∙ ih ∙ sym (other-more desks piece from until d c e))

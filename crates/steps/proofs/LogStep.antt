@@ -61,18 +61,18 @@ module _ (J : Job) (sound : Sound J) (n : ℕ) (desks : List ℕ) (t u k : ℕ) 
         by-test test
         (λ y. rw (lt-ltb i 256 few, y, when) (goes y (h .lasts d b)))
         (λ y. rw (lt-ltb i 256 few, y, lt-ltb (l .runs) 512 (room J sound n desks t u k e p s count small desk-is d i b q l h (anew y)), when)
-          (begins-held J sound n desks t u k e p s count small desk-is d i b q l h (anew y)))
+        (begins-held J sound n desks t u k e p s count small desk-is d i b q l h (anew y)))
 
   -- Desk d moved on, by the code of its choice.
   note-desk : (d x : ℕ) → d < 32 → x ≡ codeOf (worked J d t) → (l : Log) → Then d l → Then (suc d) (noteOn t u d x l)
   unfolding noteOn codeOf
   note-desk d x b c l h = by-choice (worked J d t)
       (λ q. let z : x ≡ 256 = c ∙ ap codeOf q in
-        rw (le-ltb x 256 (omega arith), when) (resting-held J sound n desks t u k e p s count small desk-is d q l h))
+      rw (le-ltb x 256 (omega arith), when) (resting-held J sound n desks t u k e p s count small desk-is d q l h))
       (λ i q. let z : x ≡ i = c ∙ ap codeOf q in rw z (working d i b q l h))
 
   note-desks : (chosen : List ℕ) → ((d : ℕ) → d < 32 → getD chosen d 0 ≡ codeOf (worked J d t)) → (d : ℕ) → d ≤ 32
-    → (l : Log) → Then 0 l → Then d (noteTo t u chosen d l)
+      → (l : Log) → Then 0 l → Then d (noteTo t u chosen d l)
   unfolding noteTo
   note-desks chosen c zero b l h = h
   note-desks chosen c (suc d) b l h =
@@ -80,7 +80,7 @@ module _ (J : Job) (sound : Sound J) (n : ℕ) (desks : List ℕ) (t u k : ℕ) 
 
 -- The same log with the desks' moments said otherwise.
 pub log-alike : (J : Job) (n : ℕ) (desks : List ℕ) (τ σ : ℕ → ℕ) (l : Log) → ((d : ℕ) → d < 32 → σ d ≡ τ d)
-  → ((i : ℕ) → i < n → desk J i < 32) → LogHeld J n desks τ l → LogHeld J n desks σ l
+    → ((i : ℕ) → i < n → desk J i < 32) → LogHeld J n desks τ l → LogHeld J n desks σ l
 log-alike J n desks τ σ l same few-desks h = record {
   last-sized = h .last-sized;
   piece-sized = h .piece-sized;
@@ -92,16 +92,16 @@ log-alike J n desks τ σ l same few-desks h = record {
   forward = h .forward;
   few = let z : scores J n σ ≡ scores J n τ =
       ap sum (map-same (λ i. score J (σ (desk J i)) i) (λ i. score J (τ (desk J i)) i) (below n)
-        (λ i m. rw (same (desk J i) (few-desks i (mem-below n i m))))) in
+      (λ i m. rw (same (desk J i) (few-desks i (mem-below n i m))))) in
       rw z (h .few);
 }
 
 -- All desks moved on.
 pub note-step : (J : Job) (sound : Sound J) (n : ℕ) (desks : List ℕ) (t u k : ℕ) → t + k ≡ u → 0 < k → Stretch J t k
-  → pieceCount J ≡ n → n ≤ 256 → ((i : ℕ) → i < n → desk J i ≡ getD desks i 0) → ((i : ℕ) → i < n → desk J i < 32)
-  → (chosen : List ℕ) → ((d : ℕ) → d < 32 → getD chosen d 0 ≡ codeOf (worked J d t))
-  → (l : Log) → LogHeld J n desks (λ d. t) l → LogHeld J n desks (λ d. u) (noteTo t u chosen 32 l)
+    → pieceCount J ≡ n → n ≤ 256 → ((i : ℕ) → i < n → desk J i ≡ getD desks i 0) → ((i : ℕ) → i < n → desk J i < 32)
+    → (chosen : List ℕ) → ((d : ℕ) → d < 32 → getD chosen d 0 ≡ codeOf (worked J d t))
+    → (l : Log) → LogHeld J n desks (λ d. t) l → LogHeld J n desks (λ d. u) (noteTo t u chosen 32 l)
 note-step J sound n desks t u k e p s count small desk-is few-desks chosen c l h =
     log-alike J n desks (momentOf t u 32) (λ d. u) (noteTo t u chosen 32 l) (λ d b. sym (moment-late t u 32 d b)) few-desks
     (note-desks J sound n desks t u k e p s count small desk-is chosen c 32 (omega arith) l
-      (log-alike J n desks (λ d. t) (momentOf t u 0) l (λ d b. moment-early t u 0 d (omega arith)) few-desks h))
+    (log-alike J n desks (λ d. t) (momentOf t u 0) l (λ d b. moment-early t u 0 d (omega arith)) few-desks h))

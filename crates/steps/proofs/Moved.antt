@@ -47,8 +47,8 @@ module _ (J : Job) where
     pub unmoved : (d j : ℕ) → (worked J d t ≡ some j → ⊥) → standing (momentOf t u (suc d)) j ≡ standing (momentOf t u d) j
     unmoved d j ne = by-test (eqb (desk J j) d)
         (λ q. let z : desk J j ≡ d = eqb-true (desk J j) d q in
-          ap (λ x. at J x j) (moment-late t u (suc d) (desk J j) (omega arith)) ∙ same z
-          ∙ sym (ap (λ x. at J x j) (moment-early t u d (desk J j) (omega arith))))
+        ap (λ x. at J x j) (moment-late t u (suc d) (desk J j) (omega arith)) ∙ same z
+        ∙ sym (ap (λ x. at J x j) (moment-early t u d (desk J j) (omega arith))))
         (λ q. ap (λ x. at J x j) (moment-other t u d (desk J j) (eqb-false (desk J j) d q)))
       where
         same : desk J j ≡ d → at J u j ≡ at J t j

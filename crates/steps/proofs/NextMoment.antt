@@ -63,7 +63,7 @@ module _ (v : View) where
   ready-counts (suc k) m i h e = by-test (ltb i k)
       (λ q. omega (arith, ready-counts k m i (ltb-true i k q) e, lesser-most (later k) (readyNext v k m) (getD (v .ready) k 0)))
       (λ q. let z : i ≡ k = omega (arith, ltb-false i k q) in
-        rw z (lesser-counts (later k) (readyNext v k m) (getD (v .ready) k 0) (rw z at e)))
+      rw z (lesser-counts (later k) (readyNext v k m) (getD (v .ready) k 0) (rw z at e)))
 
   ready-above : (k m : ℕ) → v .moment < m → v .moment < readyNext v k m
   unfolding readyNext momentWith
@@ -78,8 +78,8 @@ module _ (v : View) where
   ready-from (suc k) m = go (lesser-from (later k) (readyNext v k m) (getD (v .ready) k 0)) (ready-from k m)
     where
       go : (lesser (later k) (readyNext v k m) (getD (v .ready) k 0) ≡ readyNext v k m) ⊎ (later k ≡ true)
-        → (readyNext v k m ≡ m) ⊎ ((i : ℕ) × (i < k) × (isDue v i ≡ true))
-        → (lesser (later k) (readyNext v k m) (getD (v .ready) k 0) ≡ m) ⊎ ((i : ℕ) × (i < suc k) × (isDue v i ≡ true))
+          → (readyNext v k m ≡ m) ⊎ ((i : ℕ) × (i < k) × (isDue v i ≡ true))
+          → (lesser (later k) (readyNext v k m) (getD (v .ready) k 0) ≡ m) ⊎ ((i : ℕ) × (i < suc k) × (isDue v i ≡ true))
       go (inr e) ih = inr (k, omega arith, and-true (isDue v k) _ e .0)
       go (inl e) (inl q) = inl (e ∙ q)
       go (inl e) (inr w) = inr (w .0, omega (arith, w .1), w .2)
@@ -99,13 +99,16 @@ module _ (t : ℕ) (left D : List ℕ) where
   unfolding endNext endWith
   end-counts zero m d h e = absurd (omega arith)
   end-counts (suc k) m d h e = by-test (ltb d k)
-      (λ q. omega (arith, end-counts k m d (ltb-true d k q) e,
-        lesser-most (someone k) (endNext t left D k m) (t + getD left (getD D k 0) 0)))
+      (λ q. omega (
+        arith,
+        end-counts k m d (ltb-true d k q) e,
+        lesser-most (someone k) (endNext t left D k m) (t + getD left (getD D k 0) 0),
+      ))
       (λ q. let z : d ≡ k = omega (arith, ltb-false d k q) in
-        rw z (lesser-counts (someone k) (endNext t left D k m) (t + getD left (getD D k 0) 0) (rw z at e)))
+      rw z (lesser-counts (someone k) (endNext t left D k m) (t + getD left (getD D k 0) 0) (rw z at e)))
 
   end-above : (k m : ℕ) → t < m → ((d : ℕ) → d < k → someone d ≡ true → 0 < getD left (getD D d 0) 0)
-    → t < endNext t left D k m
+      → t < endNext t left D k m
   unfolding endNext endWith
   end-above zero m h u = h
   end-above (suc k) m h u =
@@ -119,8 +122,8 @@ module _ (t : ℕ) (left D : List ℕ) where
   end-from (suc k) m = go (lesser-from (someone k) (endNext t left D k m) (t + getD left (getD D k 0) 0)) (end-from k m)
     where
       go : (lesser (someone k) (endNext t left D k m) (t + getD left (getD D k 0) 0) ≡ endNext t left D k m) ⊎ (someone k ≡ true)
-        → (endNext t left D k m ≡ m) ⊎ ((d : ℕ) × (d < k) × (someone d ≡ true))
-        → (lesser (someone k) (endNext t left D k m) (t + getD left (getD D k 0) 0) ≡ m) ⊎ ((d : ℕ) × (d < suc k) × (someone d ≡ true))
+          → (endNext t left D k m ≡ m) ⊎ ((d : ℕ) × (d < k) × (someone d ≡ true))
+          → (lesser (someone k) (endNext t left D k m) (t + getD left (getD D k 0) 0) ≡ m) ⊎ ((d : ℕ) × (d < suc k) × (someone d ≡ true))
       go (inr e) ih = inr (k, omega arith, e)
       go (inl e) (inl q) = inl (e ∙ q)
       go (inl e) (inr w) = inr (w .0, omega (arith, w .1), w .2)
@@ -141,7 +144,7 @@ module _ (J : Job) (n : ℕ) (v : View) (s : Shown J n v) where
       (λ i q. q ∙ ap some (sym (working-code d i h q)))
 
   chosen-waits : (d : ℕ) → d < 32 → getD (choiceOf v n) d 0 < 256
-    → (getD (choiceOf v n) d 0 < n) × (0 < getD (v .left) (getD (choiceOf v n) d 0) 0)
+      → (getD (choiceOf v n) d 0 < n) × (0 < getD (v .left) (getD (choiceOf v n) d 0) 0)
   chosen-waits d h l =
       let w = worked-chosen J d (v .moment) (getD (choiceOf v n) d 0) (chosen-worked d h l) .waits in
       let b : getD (choiceOf v n) d 0 < n = rw (s .count) at (w .inside) in
@@ -171,11 +174,11 @@ module _ (J : Job) (n : ℕ) (v : View) (s : Shown J n v) where
       let d : desk J i < 32 = desk-few i h in
       let c : getD (choiceOf v n) (desk J i) 0 ≡ i = working-code (desk J i) i d e in
       let w = end-counts (v .moment) (v .left) (choiceOf v n) 32 (readyNext v n never) (desk J i) d
-          (lt-ltb (getD (choiceOf v n) (desk J i) 0) 256 (omega (arith, s .few))) in
+      (lt-ltb (getD (choiceOf v n) (desk J i) 0) 256 (omega (arith, s .few))) in
       rw (c, s .left-is i h) at w
 
   next-ready : (i : ℕ) → i < n → 0 < at J (v .moment) i .left → waitsOf J (at J (v .moment)) i ≡ 0
-    → v .moment < readyOf J (at J (v .moment)) i → next ≤ readyOf J (at J (v .moment)) i
+      → v .moment < readyOf J (at J (v .moment)) i → next ≤ readyOf J (at J (v .moment)) i
   unfolding nextOf
   next-ready i h l w b =
       let r : getD (v .ready) i 0 ≡ readyOf J (at J (v .moment)) i = s .ready-is i h in
@@ -197,8 +200,8 @@ module _ (J : Job) (n : ℕ) (v : View) (s : Shown J n v) where
   unfinished-one ne = go (end-from (v .moment) (v .left) (choiceOf v n) 32 (readyNext v n never)) (ready-from v n never)
     where
       go : (next ≡ readyNext v n never) ⊎ ((d : ℕ) × (d < 32) × (ltb (getD (choiceOf v n) d 0) 256 ≡ true))
-        → (readyNext v n never ≡ never) ⊎ ((i : ℕ) × (i < n) × (isDue v i ≡ true))
-        → (i : ℕ) × (i < n) × (0 < at J (v .moment) i .left)
+          → (readyNext v n never ≡ never) ⊎ ((i : ℕ) × (i < n) × (isDue v i ≡ true))
+          → (i : ℕ) × (i < n) × (0 < at J (v .moment) i .left)
       go (inr w) r =
           let c = chosen-waits (w .0) (w .1) (ltb-true (getD (choiceOf v n) (w .0) 0) 256 (w .2)) in
           (getD (choiceOf v n) (w .0) 0, c .0, rw (s .left-is _ (c .0)) at (c .1))
@@ -214,23 +217,27 @@ module _ (J : Job) (n : ℕ) (v : View) (s : Shown J n v) where
       where
         b : i < pieceCount J
         b = rw (s .count) h
+
         clash : horizon J < next → ⊥
         clash q =
             let k = next - v .moment - 1 in
             let m : v .moment < next = next-ahead a in
             let z : horizon J + (v .moment + k - horizon J) ≡ v .moment + k = omega arith in
             let u : 0 < at J (v .moment + k) i .left =
-                unfinished-through J sound (v .moment) (next - v .moment) (quiet-until a) k (omega arith) i b l in
+            unfinished-through J sound (v .moment) (next - v .moment) (quiet-until a) k (omega arith) i b l in
             let f : at J (v .moment + k) i .left ≡ at J (horizon J) i .left =
-                ap (λ p. p .left) (rw z at (finished-for-good J (v .moment + k - horizon J) (horizon J) i b (all-finished J sound free i b))) in
+            ap (λ p. p .left) (rw z at (finished-for-good J (v .moment + k - horizon J) (horizon J) i b (all-finished J sound free i b))) in
             omega (arith, all-finished J sound free i b)
 
     -- No further moment: every piece is finished. A further moment: it lies within the horizon.
     pub no-next : v .moment < never → next ≡ never → Ended J (v .moment)
     no-next a e i h = by-test (eqb (at J (v .moment) i .left) 0)
         (λ q. eqb-true _ 0 q)
-        (λ q. absurd (omega (arith, horizon-most J sound free,
-          within a i (rw (s .count) at h) (omega (arith, eqb-false (at J (v .moment) i .left) 0 q)))))
+        (λ q. absurd (omega (
+          arith,
+          horizon-most J sound free,
+          within a i (rw (s .count) at h) (omega (arith, eqb-false (at J (v .moment) i .left) 0 q)),
+        )))
 
     pub next-within : v .moment < never → next < never → next ≤ horizon J
     next-within a e = let w = unfinished-one (λ z. omega arith) in within a (w .0) (w .1) (w .2)

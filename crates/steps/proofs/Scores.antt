@@ -29,21 +29,25 @@ module _ (J : Job) (n : ℕ) where
 
   pub scores-most : (τ : ℕ → ℕ) → scores τ ≤ n + n
   scores-most τ =
-      omega (arith, sum-le (λ i. score J (τ (desk J i)) i) (λ i. 2) (below n) (λ i m. score-most J (τ (desk J i)) i),
-        twice (below n), length-below n)
+      omega (
+        arith,
+        sum-le (λ i. score J (τ (desk J i)) i) (λ i. 2) (below n) (λ i m. score-most J (τ (desk J i)) i),
+        twice (below n),
+        length-below n,
+      )
 
   pub scores-less : (τ : ℕ → ℕ) (i : ℕ) → i < n → 0 < at J (τ (desk J i)) i .left → scores τ < n + n
   scores-less τ i h l =
       let less = sum-lt (λ i. score J (τ (desk J i)) i) (λ i. 2) (below n) (λ i m. score-most J (τ (desk J i)) i) i (below-mem n i h)
-          (omega (arith, score-unfinished J (τ (desk J i)) i l)) in
+      (omega (arith, score-unfinished J (τ (desk J i)) i l)) in
       omega (arith, twice (below n), length-below n)
 
   module _ (t u k : ℕ) (e : t + k ≡ u) (p : 0 < k) (count : pieceCount J ≡ n) (d : ℕ) where
     score-moves : (i : ℕ) → i < n → score J (momentOf t u d (desk J i)) i ≤ score J (momentOf t u (suc d) (desk J i)) i
     score-moves i h = by-test (eqb (desk J i) d)
         (λ q. let z : desk J i ≡ d = eqb-true (desk J i) d q in
-          rw (moment-early t u d (desk J i) (omega arith), moment-late t u (suc d) (desk J i) (omega arith), ← e)
-          (score-grows J t k i (rw count h)))
+        rw (moment-early t u d (desk J i) (omega arith), moment-late t u (suc d) (desk J i) (omega arith), ← e)
+        (score-grows J t k i (rw count h)))
         (λ q. rw (moment-other t u d (desk J i) (eqb-false (desk J i) d q)) (omega arith))
 
     pub scores-grow : scores (momentOf t u d) ≤ scores (momentOf t u (suc d))
@@ -53,6 +57,6 @@ module _ (J : Job) (n : ℕ) where
     scores-rise x h z r =
         sum-lt _ _ (below n) (λ i m. score-moves i (mem-below n i m)) x (below-mem n x h)
         (rw (moment-early t u d (desk J x) (omega arith), moment-late t u (suc d) (desk J x) (omega arith))
-          (let y : suc t + (k - 1) ≡ u = omega arith in
-            let g : score J (suc t) x ≤ score J u x = rw y at (score-grows J (suc t) (k - 1) x (rw count h)) in
-            omega arith))
+        (let y : suc t + (k - 1) ≡ u = omega arith in
+        let g : score J (suc t) x ≤ score J u x = rw y at (score-grows J (suc t) (k - 1) x (rw count h)) in
+        omega arith))

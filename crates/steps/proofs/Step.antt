@@ -77,7 +77,7 @@ module _ (J : Job) (sound : Sound J) (free : ringPiece J ≡ none) (n m : ℕ) (
     works = workTo durations t next (choiceOf seen n) 32 w
 
     pub step : next < never
-      → Held J n desks next works (handTo (ties desks befores afters handovers) m next (works .left) (choiceOf seen n) 32 s)
+        → Held J n desks next works (handTo (ties desks befores afters handovers) m next (works .left) (choiceOf seen n) 32 s)
         (noteTo t next (choiceOf seen n) 32 l)
     step c =
         let k = next - t in
@@ -86,8 +86,8 @@ module _ (J : Job) (sound : Sound J) (free : ringPiece J ≡ none) (n m : ℕ) (
         let q : Stretch J t (next - t) = quiet-until J n seen shown before-never in
         let chosen : (d : ℕ) → d < 32 → getD (choiceOf seen n) d 0 ≡ codeOf (worked J d t) = choice-is J n seen shown in
         let done : WorkHeld n (at J next) works =
-            work-step J sound n durations t next (next - t) e p q (L .count) few-pieces (L .duration-is)
-            (choiceOf seen n) chosen few-desks w (h .working) in
+        work-step J sound n durations t next (next - t) e p q (L .count) few-pieces (L .duration-is)
+        (choiceOf seen n) chosen few-desks w (h .working) in
         record {
           in-time = within c;
           working = done;

@@ -22,7 +22,7 @@ module _ (n m : ℕ) (desks durations releases dues befores afters handovers : L
   piece-is i h = getD-below (pieceIn desks durations releases dues) noPiece n i h
 
   pub listed : (latests : List ℤ) → ((i : ℕ) → i < n → getD latests i (pos 0) ≡ latest tabled i)
-    → Listed tabled n m desks durations releases befores afters handovers latests
+      → Listed tabled n m desks durations releases befores afters handovers latests
   unfolding jobIn piecesIn linksIn pieceIn
   listed latests h = record {
     count = length-map (below n) (pieceIn desks durations releases dues) ∙ length-below n;

@@ -43,7 +43,7 @@ work-alike n P Q w e h = record {
 
 -- A value stored for one piece: it counts for that piece, and the others keep theirs.
 stored : (T : List ℕ) (n i x : ℕ) (f g : ℕ → ℕ) → i < length T → ((j : ℕ) → j < n → getD T j 0 ≡ f j) → x ≡ g i
-  → ((j : ℕ) → j < n → (j ≡ i → ⊥) → f j ≡ g j) → (j : ℕ) → j < n → getD (set T i x) j 0 ≡ g j
+    → ((j : ℕ) → j < n → (j ≡ i → ⊥) → f j ≡ g j) → (j : ℕ) → j < n → getD (set T i x) j 0 ≡ g j
 stored T n i x f g b h e o j l = by-test (eqb j i)
     (λ q. let z : j ≡ i = eqb-true j i q in rw (z, getD-set-same T i x 0 b) e)
     (λ q. let ne = eqb-false j i q in getD-set-other T i j x 0 ne ∙ h j l ∙ o j l ne)
@@ -53,16 +53,16 @@ module _ (J : Job) (sound : Sound J) (n : ℕ) (durations : List ℕ) (t u k : �
     (duration-is : (i : ℕ) → i < n → duration J i ≡ getD durations i 0) where
   -- Desk d moved on: it works on piece i, or rests.
   worked-desk : (d i : ℕ) → worked J d t ≡ some i → (w : Work) → WorkHeld n (standing J (momentOf t u d)) w
-    → WorkHeld n (standing J (momentOf t u (suc d))) (forth durations t u i w)
+      → WorkHeld n (standing J (momentOf t u (suc d))) (forth durations t u i w)
   worked-desk d i q w h =
       let inside : i < n = rw count at (worked-chosen J d t i q .waits .inside) in
       let P = standing J (momentOf t u d) in
       let Q = standing J (momentOf t u (suc d)) in
       let from = moved-from J sound t u k e s d i q in
       let to : Q i ≡ workedFor (duration J i) t k (at J t i) =
-          moved-to J sound t u k e s d i q ∙ moved-on J sound t u k e s d i q p in
+      moved-to J sound t u k e s d i q ∙ moved-on J sound t u k e s d i q p in
       let others : (j : ℕ) → (j ≡ i → ⊥) → P j ≡ Q j =
-          λ j ne. sym (unmoved J sound t u k e s d j (λ z. ne (some-inj (sym z ∙ q)))) in
+      λ j ne. sym (unmoved J sound t u k e s d j (λ z. ne (some-inj (sym z ∙ q)))) in
       let whole : getD (w .left) i 0 ≡ at J t i .left = h .left-is i inside ∙ ap (λ r. r .left) from in
       let first : getD (w .start) i 0 ≡ at J t i .start = h .start-is i inside ∙ ap (λ r. r .start) from in
       let slots : u - t ≡ k = omega arith in
@@ -83,21 +83,21 @@ module _ (J : Job) (sound : Sound J) (n : ℕ) (durations : List ℕ) (t u k : �
       }
 
   work-desk : (d x : ℕ) → x ≡ codeOf (worked J d t) → (w : Work) → WorkHeld n (standing J (momentOf t u d)) w
-    → WorkHeld n (standing J (momentOf t u (suc d))) (workOn durations t u x w)
+      → WorkHeld n (standing J (momentOf t u (suc d))) (workOn durations t u x w)
   unfolding workOn codeOf
   work-desk d x c w h = by-choice (worked J d t)
       (λ q. let z : x ≡ 256 = c ∙ ap codeOf q in
-        rw (when-false (ltb x 256) (forth durations t u x w) w (le-ltb x 256 (omega arith)))
-        (work-alike n (standing J (momentOf t u d)) (standing J (momentOf t u (suc d))) w
-          (λ j l. unmoved J sound t u k e s d j (λ y. none-or-some (sym q ∙ y))) h))
+      rw (when-false (ltb x 256) (forth durations t u x w) w (le-ltb x 256 (omega arith)))
+      (work-alike n (standing J (momentOf t u d)) (standing J (momentOf t u (suc d))) w
+      (λ j l. unmoved J sound t u k e s d j (λ y. none-or-some (sym q ∙ y))) h))
       (λ i q. let z : x ≡ i = c ∙ ap codeOf q in
-        let b : i < n = rw count at (worked-chosen J d t i q .waits .inside) in
-        rw (when-true (ltb x 256) (forth durations t u x w) w (lt-ltb x 256 (omega arith)), z) (worked-desk d i q w h))
+      let b : i < n = rw count at (worked-chosen J d t i q .waits .inside) in
+      rw (when-true (ltb x 256) (forth durations t u x w) w (lt-ltb x 256 (omega arith)), z) (worked-desk d i q w h))
 
   -- The first d desks moved on.
   work-desks : (chosen : List ℕ) → ((d : ℕ) → d < 32 → getD chosen d 0 ≡ codeOf (worked J d t)) → (d : ℕ) → d ≤ 32
-    → (w : Work) → WorkHeld n (standing J (momentOf t u 0)) w
-    → WorkHeld n (standing J (momentOf t u d)) (workTo durations t u chosen d w)
+      → (w : Work) → WorkHeld n (standing J (momentOf t u 0)) w
+      → WorkHeld n (standing J (momentOf t u d)) (workTo durations t u chosen d w)
   unfolding workTo
   work-desks chosen c zero l w h = h
   work-desks chosen c (suc d) l w h =
@@ -105,9 +105,9 @@ module _ (J : Job) (sound : Sound J) (n : ℕ) (durations : List ℕ) (t u k : �
 
   -- All of them: the tables say how far the pieces are at moment u.
   pub work-step : (chosen : List ℕ) → ((d : ℕ) → d < 32 → getD chosen d 0 ≡ codeOf (worked J d t))
-    → ((i : ℕ) → i < n → desk J i < 32) → (w : Work) → WorkHeld n (at J t) w → WorkHeld n (at J u) (workTo durations t u chosen 32 w)
+      → ((i : ℕ) → i < n → desk J i < 32) → (w : Work) → WorkHeld n (at J t) w → WorkHeld n (at J u) (workTo durations t u chosen 32 w)
   work-step chosen c few-desks w h =
       work-alike n (standing J (momentOf t u 32)) (at J u) (workTo durations t u chosen 32 w)
       (λ i l. ap (λ x. at J x i) (sym (moment-late t u 32 (desk J i) (few-desks i l))))
       (work-desks chosen c 32 (omega arith) w
-        (work-alike n (at J t) (standing J (momentOf t u 0)) w (λ i l. ap (λ x. at J x i) (moment-early t u 0 (desk J i) (omega arith))) h))
+      (work-alike n (at J t) (standing J (momentOf t u 0)) w (λ i l. ap (λ x. at J x i) (moment-early t u 0 (desk J i) (omega arith))) h))

@@ -38,7 +38,7 @@ module _ (t next : ℕ) where
   noteOn d i l =
       when (ltb i 256)
       (when (stays (l .piece) (l .until) (getD (l .last) d 0) i t) (lengthened (getD (l .last) d 0) l)
-        (when (ltb (l .runs) 512) (begun d i l) l))
+      (when (ltb (l .runs) 512) (begun d i l) l))
       l
 
   -- The same for the first d desks.

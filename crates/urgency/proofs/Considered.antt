@@ -27,7 +27,7 @@ module _ (v : View) (i : ℕ) (C : List ℕ) (next : ℕ) where
       by-test (ltb 0 (getD (v .left) i 0)) (λ a. (rw (a, e), rw (a, e))) (λ a. (rw a, rw a))
 
   pub ready-later : (getD (v .left) i 0 ≡ 0 → ⊥) → getD (v .waits) i 0 ≤ 0 → v .moment < getD (v .ready) i 0
-    → Becomes C (min next (getD (v .ready) i 0))
+      → Becomes C (min next (getD (v .ready) i 0))
   unfolding consideredBy momentWith isDue when
   ready-later h k l =
       let a = lt-ltb 0 (getD (v .left) i 0) (omega arith) in
@@ -35,7 +35,7 @@ module _ (v : View) (i : ℕ) (C : List ℕ) (next : ℕ) where
       (rw (a, b, lt-leb (getD (v .ready) i 0) (v .moment) l), rw (a, b, lt-ltb (v .moment) (getD (v .ready) i 0) l))
 
   pub ready-now : (getD (v .left) i 0 ≡ 0 → ⊥) → getD (v .waits) i 0 ≤ 0 → getD (v .ready) i 0 ≤ v .moment
-    → Becomes (offered (v .latests) i (getD (v .desks) i 0) C) next
+      → Becomes (offered (v .latests) i (getD (v .desks) i 0) C) next
   unfolding consideredBy momentWith isDue when
   ready-now h k l =
       let a = lt-ltb 0 (getD (v .left) i 0) (omega arith) in

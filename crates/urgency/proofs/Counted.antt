@@ -25,11 +25,16 @@ abbrev pub Counted : List ℕ → List ℕ → ℕ → Type 0
 Counted afters waits k = (i : ℕ) → i < 256 → getD waits i 0 ≡ intoOf afters i k
 
 pub count-more : (afters waits : List ℕ) (k : ℕ) → length waits ≡ 256 → getD afters k 0 < 256 → Counted afters waits k
-  → Counted afters (set waits (getD afters k 0) (getD waits (getD afters k 0) 0 + 1)) (k + 1)
+    → Counted afters (set waits (getD afters k 0) (getD waits (getD afters k 0) 0 + 1)) (k + 1)
 unfolding intoOf
 count-more afters waits k len in-range h i l = by-test (eqb (getD afters k 0) i)
     (λ e. let q : getD afters k 0 ≡ i = eqb-true _ i e in
-      rw (add-one k, e, when, q, getD-set-same waits i (getD waits i 0 + 1) 0 (omega arith), h i l))
-    (λ e. rw (add-one k, e, when,
-      getD-set-other waits (getD afters k 0) i (getD waits (getD afters k 0) 0 + 1) 0 (λ z. eqb-false _ i e (sym z)), h i l)
-      (omega arith))
+    rw (add-one k, e, when, q, getD-set-same waits i (getD waits i 0 + 1) 0 (omega arith), h i l))
+    (λ e. rw (
+      add-one k,
+      e,
+      when,
+      getD-set-other waits (getD afters k 0) i (getD waits (getD afters k 0) 0 + 1) 0 (λ z. eqb-false _ i e (sym z)),
+      h i l,
+    )
+    (omega arith))

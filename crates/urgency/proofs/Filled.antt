@@ -11,13 +11,13 @@ use Rattle.laws.proofs.Words.{by-test}
 use Rattle.urgency.specs.Plan.{Begun}
 
 filled : (T : List ℕ) (i x : ℕ) (f : ℕ → ℕ) → i < length T → ((j : ℕ) → j < i → getD T j 0 ≡ f j) → x ≡ f i
-  → (j : ℕ) → j < i + 1 → getD (set T i x) j 0 ≡ f j
+    → (j : ℕ) → j < i + 1 → getD (set T i x) j 0 ≡ f j
 filled T i x f b h e j l = by-test (eqb j i)
     (λ q. let z : j ≡ i = eqb-true j i q in rw (z, getD-set-same T i x 0 b) e)
     (λ q. let ne = eqb-false j i q in getD-set-other T i j x 0 ne ∙ h j (omega arith))
 
 pub begun-none : (durations releases left ready starts finishes : List ℕ) → length left ≡ 256 → length ready ≡ 256
-  → length starts ≡ 256 → length finishes ≡ 256 → Begun 0 durations releases left ready starts finishes
+    → length starts ≡ 256 → length finishes ≡ 256 → Begun 0 durations releases left ready starts finishes
 begun-none durations releases left ready starts finishes a b c d = record {
   left-sized = a;
   ready-sized = b;
@@ -30,8 +30,8 @@ begun-none durations releases left ready starts finishes a b c d = record {
 }
 
 pub begun-more : (durations releases left ready starts finishes : List ℕ) (i x : ℕ) → i < 256 → x ≡ getD durations i 0
-  → Begun i durations releases left ready starts finishes
-  → Begun (i + 1) durations releases (set left i x) (set ready i (getD releases i 0)) (set starts i 0) (set finishes i 0)
+    → Begun i durations releases left ready starts finishes
+    → Begun (i + 1) durations releases (set left i x) (set ready i (getD releases i 0)) (set starts i 0) (set finishes i 0)
 begun-more durations releases left ready starts finishes i x b e h = record {
   left-sized = length-set left i x ∙ h .left-sized;
   ready-sized = length-set ready i (getD releases i 0) ∙ h .ready-sized;

@@ -33,9 +33,9 @@ module _ (l : Ties) (p c : ℕ) where
   last-found s zero k e = absurd (omega arith)
   last-found s (suc n) k e = by-test (eqb (getD (l .befores) n 0) p)
       (λ q. let z : n ≡ k = omega (arith, rw (q, when) at e) in
-        rw (← z) (record { below = omega arith; own = eqb-true _ p q; rest = rw (q, when) }))
+      rw (← z) (record { below = omega arith; own = eqb-true _ p q; rest = rw (q, when) }))
       (λ q. let ih = last-found s n k (rw (q, when) at e) in
-        record { below = omega (arith, ih .below); own = ih .own; rest = rw (q, when) (ih .rest) })
+      record { below = omega (arith, ih .below); own = ih .own; rest = rw (q, when) (ih .rest) })
 
   pub last-nothing : (s : Waiting) (n : ℕ) → lastWith (l .befores) p n ≡ 0 → passFrom l p c n s ≡ s
   unfolding lastWith passFrom
@@ -46,12 +46,12 @@ module _ (l : Ties) (p c : ℕ) where
 
 -- One link looked at, with what the code computed for it.
 pub passed-on : (l : Ties) (c k w r d : ℕ) (s : Waiting) → w ≡ getD (s .waits) (getD (l .afters) k 0) 0 - 1
-  → d ≡ delayOf l k → r ≡ max (getD (s .ready) (getD (l .afters) k 0) 0) (c + d)
-  → waiting (set (s .waits) (getD (l .afters) k 0) w) (set (s .ready) (getD (l .afters) k 0) r) ≡ passed l c k s
+    → d ≡ delayOf l k → r ≡ max (getD (s .ready) (getD (l .afters) k 0) 0) (c + d)
+    → waiting (set (s .waits) (getD (l .afters) k 0) w) (set (s .ready) (getD (l .afters) k 0) r) ≡ passed l c k s
 passed-on l c k w r d s a e b = rw (a, b, e)
 
 pub delay-is : (l : Ties) (k h d : ℕ) → h ≡ getD (l .handovers) k 0
-  → d ≡ when (eqb (getD (l .desks) (getD (l .befores) k 0) 0) (getD (l .desks) (getD (l .afters) k 0) 0)) 0 h → d ≡ delayOf l k
+    → d ≡ when (eqb (getD (l .desks) (getD (l .befores) k 0) 0) (getD (l .desks) (getD (l .afters) k 0) 0)) 0 h → d ≡ delayOf l k
 unfolding delayOf
 delay-is l k h d e f = f ∙ rw e
 
@@ -74,6 +74,6 @@ module _ (l : Ties) (m c : ℕ) (left : List ℕ) where
       (rw (lt-ltb i 256 (omega arith)) (eq-eqb (getD left i 0) 0 (omega arith))))
 
   pub hand-more : (chosen : List ℕ) (d : ℕ) (s : Waiting)
-    → handTo l m c left chosen (d + 1) s ≡ handOn l m c left (getD chosen d 0) (handTo l m c left chosen d s)
+      → handTo l m c left chosen (d + 1) s ≡ handOn l m c left (getD chosen d 0) (handTo l m c left chosen d s)
   unfolding handTo
   hand-more chosen d s = rw (add-one d)

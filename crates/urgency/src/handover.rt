@@ -1,7 +1,6 @@
 // What the links do to the pieces: how many unfinished pieces a piece waits for, and from when on it may be ready. A link
 // is looked at once, when the piece before it is finished.
 use crate::work;
-
 ghost use mathlib.Core.Path.{_≡_};
 ghost use Prim.Native.Nat.{ℕ, _-_, _<_, _≤_, max};
 ghost use lib.Dec.{eqb};
@@ -63,7 +62,10 @@ fn pass(
     let b = befores[k] as usize;
     let a = afters[k] as usize;
     waits[a] = one_less(waits[a]);
-    ready[a] = later(ready[a], c + delay(desks[b], desks[a], work::wide(handovers[k])));
+    ready[a] = later(
+        ready[a],
+        c + delay(desks[b], desks[a], work::wide(handovers[k])),
+    );
 }
 
 // A link's place, or one more, out of the chains.
@@ -128,7 +130,19 @@ fn hand_on(
     if 0 < left[i] {
         return;
     }
-    pass_on(m, i, c, desks, befores, afters, handovers, last, prior, waits, ready);
+    pass_on(
+        m,
+        i,
+        c,
+        desks,
+        befores,
+        afters,
+        handovers,
+        last,
+        prior,
+        waits,
+        ready,
+    );
 }
 
 // The same for the pieces that the desks chose.
@@ -154,7 +168,20 @@ pub fn hand_all(
 {
     let mut d = 0;
     while d < 32 {
-        hand_on(m, chosen[d], c, desks, befores, afters, handovers, last, prior, left, waits, ready);
+        hand_on(
+            m,
+            chosen[d],
+            c,
+            desks,
+            befores,
+            afters,
+            handovers,
+            last,
+            prior,
+            left,
+            waits,
+            ready,
+        );
         d += 1;
     }
 }

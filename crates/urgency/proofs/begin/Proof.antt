@@ -19,10 +19,11 @@ abbrev μ-loop : tie.MeasureT-loop
 
 loop-holds : tie.Need-loop-holds Inv-loop μ-loop
 loop-holds c =
-    let a = c .args in
-    ( omega arith
-    , begun-none (a .durations .now) (a .releases .now) (a .left .now) (a .ready .now) (a .start .now) (a .finish .now)
-      (c .pre .1 .0) (c .pre .1 .1) (c .pre .1 .2) (c .pre .1 .3))
+    let a = c .args in (
+      omega arith,
+      begun-none (a .durations .now) (a .releases .now) (a .left .now) (a .ready .now) (a .start .now) (a .finish .now)
+          (c .pre .1 .0) (c .pre .1 .1) (c .pre .1 .2) (c .pre .1 .3),
+    )
 
 mul-wide : tie.Need-mul-wide Inv-loop μ-loop
 mul-wide c = omega arith
@@ -72,10 +73,11 @@ loop-less c = omega arith
 loop-again : tie.Need-loop-again Inv-loop μ-loop
 loop-again c =
     let a = c .before .before .before .before .before .args in
-    let l = c .before .before .before .before .loop in
-    ( omega arith
-    , begun-more (a .durations .now) (a .releases .now) (l .left) (l .ready) (l .start) (l .finish) (l .i)
-      (c .before .wide .result) (omega arith) (c .before .wide .ensures .0) (l .inv .1))
+    let l = c .before .before .before .before .loop in (
+      omega arith,
+      begun-more (a .durations .now) (a .releases .now) (l .left) (l .ready) (l .start) (l .finish) (l .i)
+          (c .before .wide .result) (omega arith) (c .before .wide .ensures .0) (l .inv .1),
+    )
 
 returns : tie.Need-returns Inv-loop μ-loop
 returns c = let e : c .before .loop .i ≡ c .before .before .args .n = omega arith in rw e at (c .before .loop .inv .1)

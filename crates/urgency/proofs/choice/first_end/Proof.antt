@@ -37,10 +37,11 @@ loop-less c = search needs
 
 loop-again : tie.Need-loop-again Inv-loop μ-loop
 loop-again c =
-    let a = c .before .before .before .before .args in
-    ( omega arith
-    , c .earlier-end .ensures ∙ ap (endWith (a .t) (a .left .now) _) (c .before .before .before .loop .inv .1)
-      ∙ sym (end-more (a .t) (a .left .now) (a .chosen .now) _ (a .next)))
+    let a = c .before .before .before .before .args in (
+      omega arith,
+      c .earlier-end .ensures ∙ ap (endWith (a .t) (a .left .now) _) (c .before .before .before .loop .inv .1)
+          ∙ sym (end-more (a .t) (a .left .now) (a .chosen .now) _ (a .next)),
+    )
 
 returns : tie.Need-returns Inv-loop μ-loop
 returns c = let e : c .before .loop .d ≡ 32 = omega arith in rw e at (c .before .loop .inv .1)

@@ -60,10 +60,11 @@ loop-less c = omega arith
 loop-again : tie.Need-loop-again Inv-loop μ-loop
 loop-again c =
     let a = c .before .before .before .before .args in
-    let l = c .before .before .before .loop in
-    ( omega arith
-    , simp length-set (l .inv .1)
-    , count-more (a .afters .now) (l .waits) (l .k) (l .inv .1) (after-in (c .before .before)) (l .inv .2))
+    let l = c .before .before .before .loop in (
+      omega arith,
+      simp length-set (l .inv .1),
+      count-more (a .afters .now) (l .waits) (l .k) (l .inv .1) (after-in (c .before .before)) (l .inv .2),
+    )
 
 returns : tie.Need-returns Inv-loop μ-loop
 returns c = let e : c .before .loop .k ≡ c .before .before .args .m = omega arith in rw e at (c .before .loop .inv .2)

@@ -35,7 +35,7 @@ returns-3 c =
     let a = c .before .before .before .before .before .before .args in
     c .pass-on .ensures
     ∙ finished-hands (ties (a .desks .now) (a .befores .now) (a .afters .now) (a .handovers .now)) (a .m) (a .c) (a .left .now) (a .i) (waiting (a .waits .now) (a .ready .now)) (c .before .before .before .before .before .if1 .left)
-      (c .before .before .before .if2 .left)
+    (c .before .before .before .if2 .left)
 
 pub hand-on-spec : {M : Type 1} → statement M
 hand-on-spec =

@@ -37,9 +37,9 @@ loop-holds c =
 
 -- The link at which the loop stands is one of piece p's, and what is passed on from there is all that is left.
 found : (c : tie.In-loop Inv-loop μ-loop) →
-  let a = c .before .before .before .before .args in
-  let l = c .before .loop in
-  Onward (ties (a .desks .now) (a .befores .now) (a .afters .now) (a .handovers .now)) (a .p) (a .c) (waiting (l .waits) (l .ready)) (l .inv .0) (l .next - 1)
+    let a = c .before .before .before .before .args in
+    let l = c .before .loop in
+    Onward (ties (a .desks .now) (a .befores .now) (a .afters .now) (a .handovers .now)) (a .p) (a .c) (waiting (l .waits) (l .ready)) (l .inv .0) (l .next - 1)
 found c =
     let a = c .before .before .before .before .args in
     let l = c .before .loop in
@@ -72,7 +72,7 @@ place-requires-2 c κs = tt
 
 -- The next place in the chain.
 next-is : (c : tie.After-place2 Inv-loop μ-loop) →
-  c .place2 .result ≡ lastWith (c .before .before .before .before .before .before .before .before .before .args .befores .now) (c .before .before .before .before .before .before .before .before .before .args .p) (c .before .before .before .before .before .before .loop .next - 1)
+    c .place2 .result ≡ lastWith (c .before .before .before .before .before .before .before .before .before .args .befores .now) (c .before .before .before .before .before .before .before .before .before .args .p) (c .before .before .before .before .before .before .loop .next - 1)
 next-is c =
     let k = c .before .before .before .before .before .before .loop .next - 1 in
     let f = found (c .before .before .before .before .before) in
@@ -86,11 +86,12 @@ loop-again : tie.Need-loop-again Inv-loop μ-loop
 loop-again c =
     let a = c .before .before .before .before .before .before .before .before .before .args in
     let l = c .before .before .before .before .before .before .loop in
-    let f = found (c .before .before .before .before .before) in
-    ( l .next - 1
-    , omega (arith, f .below, l .inv .1)
-    , next-is c
-    , ap (passFrom (ties (a .desks .now) (a .befores .now) (a .afters .now) (a .handovers .now)) (a .p) (a .c) (l .next - 1)) (c .before .before .pass .ensures) ∙ sym (f .rest) ∙ l .inv .3)
+    let f = found (c .before .before .before .before .before) in (
+      l .next - 1,
+      omega (arith, f .below, l .inv .1),
+      next-is c,
+      ap (passFrom (ties (a .desks .now) (a .befores .now) (a .afters .now) (a .handovers .now)) (a .p) (a .c) (l .next - 1)) (c .before .before .pass .ensures) ∙ sym (f .rest) ∙ l .inv .3,
+    )
 
 returns : tie.Need-returns Inv-loop μ-loop
 returns c =
@@ -98,7 +99,7 @@ returns c =
     let l = c .before .loop in
     let z : l .next ≡ 0 = omega arith in
     sym (last-nothing (ties (a .desks .now) (a .befores .now) (a .afters .now) (a .handovers .now)) (a .p) (a .c) (waiting (l .waits) (l .ready)) (l .inv .0)
-      (sym (l .inv .2) ∙ z)) ∙ l .inv .3
+    (sym (l .inv .2) ∙ z)) ∙ l .inv .3
 
 pub pass-on-spec : {M : Type 1} → statement M
 pass-on-spec =
