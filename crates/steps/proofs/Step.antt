@@ -24,7 +24,7 @@ use Rattle.steps.proofs.Decision.{Shown, choice-is}
 use Rattle.steps.proofs.LinkStep.{WaitHeld, hand-step}
 use Rattle.steps.proofs.LogHeld.{LogHeld}
 use Rattle.steps.proofs.LogStep.{note-step}
-use Rattle.steps.proofs.NextMoment.{next-ahead, quiet-until, no-next, next-within}
+use Rattle.steps.proofs.NextMoment.{next-ahead, next-most, quiet-until, no-next, next-within}
 use Rattle.steps.proofs.WorkStep.{WorkHeld, work-step}
 
 -- The tables hold the plan at moment t.
@@ -66,6 +66,9 @@ module _ (J : Job) (sound : Sound J) (free : ringPiece J ≡ none) (n m : ℕ) (
 
     pub ahead : t < next
     ahead = next-ahead J n seen shown before-never
+
+    pub at-most : next ≤ never
+    at-most = next-most J n seen shown
 
     pub within : next < never → next ≤ horizon J
     within c = next-within J n seen shown sound free before-never c

@@ -6,3 +6,4 @@ pub mod Noted
 pub mod Counted
 pub mod Passed
 pub mod Filled
+pub mod Planned

@@ -13,7 +13,8 @@ ghost use Rattle.steps.specs.Handover.{intoOf, Named, ties, waiting, passed, pa
 pub fn count(m: usize, afters: &[u16; 1024], waits: &mut [u32; 256])
     requires { ⌜ (m ≤ 1024) × ((k : ℕ) → k < m → getD (now afters) k 0 < 256) ⌝ }
     requires { ⌜ (length (now waits) ≡ 256) × ((i : ℕ) → i < 256 → getD (now waits) i 0 ≡ 0) ⌝ }
-    ensures { λ _. ⌜ ((i : ℕ) → i < 256 → getD (now (waits .exit)) i 0 ≡ intoOf (now (afters .entry)) i m) ⌝ }
+    ensures { λ _. ⌜ (length (now (waits .exit)) ≡ 256)
+        × ((i : ℕ) → i < 256 → getD (now (waits .exit)) i 0 ≡ intoOf (now (afters .entry)) i m) ⌝ }
 {
     let mut k = 0;
     while k < m {

@@ -35,3 +35,52 @@ fn begin(
         i += 1;
     }
 }
+
+// The plan of n pieces and m links. It fills start and finish of every piece and the log of the runs, in the order in which
+// they begin, and returns the count of the runs.
+pub fn plan(
+    n: usize,
+    m: usize,
+    desks: &[u8; 256],
+    durations: &[u16; 256],
+    releases: &[u32; 256],
+    dues: &[u32; 256],
+    befores: &[u16; 1024],
+    afters: &[u16; 1024],
+    handovers: &[u16; 1024],
+    latests: &[i32; 256],
+    start: &mut [u32; 256],
+    finish: &mut [u32; 256],
+    piece: &mut [u16; 512],
+    from: &mut [u32; 512],
+    until: &mut [u32; 512],
+) -> usize
+    requires { ⌜ Given (jobIn n m (now desks) (now durations) (now releases) (now dues) (now befores) (now afters) (now handovers))
+        n (now latests) ⌝ }
+    requires { ⌜ Sized (now start) (now finish) (now piece) (now from) (now until) ⌝ }
+    ensures { λ r. ⌜ Planned (jobIn n m (now (desks .entry)) (now (durations .entry)) (now (releases .entry)) (now (dues .entry))
+        (now (befores .entry)) (now (afters .entry)) (now (handovers .entry))) n (now (desks .entry))
+        (now (start .exit)) (now (finish .exit)) (now (piece .exit)) (now (from .exit)) (now (until .exit)) r ⌝ }
+{
+    let mut left = [0u32; 256];
+    let mut waits = [0u32; 256];
+    let mut ready = [0u32; 256];
+    let mut tail = [0u16; 256];
+    let mut prior = [0u16; 1024];
+    let mut chosen = [256usize; 32];
+    let mut last = [512usize; 32];
+    begin(n, durations, releases, &mut left, &mut ready, start, finish);
+    handover::count(m, afters, &mut waits);
+    links::chains::chain_links(befores, m, &mut tail, &mut prior);
+    let mut runs = 0;
+    let mut t = 0;
+    let mut next = choice::decide(n, t, desks, latests, &left, &waits, &ready, &mut chosen);
+    while next < 4294967295 {
+        work::work_all(t, next, durations, &chosen, &mut left, start, finish);
+        runs = log::note_all(t, next, runs, &chosen, &mut last, piece, from, until);
+        handover::hand_all(m, next, desks, befores, afters, handovers, &tail, &prior, &chosen, &left, &mut waits, &mut ready);
+        t = next;
+        next = choice::decide(n, t, desks, latests, &left, &waits, &ready, &mut chosen);
+    }
+    runs
+}

@@ -13,7 +13,7 @@ pub fn wide(x: u16) -> u32
 }
 
 // What is left of a when b is taken off; nothing where b is more.
-fn less(a: u32, b: u32) -> u32
+pub fn less(a: u32, b: u32) -> u32
     ensures { λ r. ⌜ r ≡ a - b ⌝ }
 {
     if a < b { 0 } else { a - b }

@@ -27,7 +27,7 @@ element-copy-out-earlier-end : tie.Need-element-copy-out-earlier-end Inv-loop μ
 element-copy-out-earlier-end c = search needs
 
 earlier-end-requires : tie.Need-earlier-end-requires Inv-loop μ-loop
-earlier-end-requires c κs = c .before .before .before .pre _
+earlier-end-requires c κs = tt
 
 add-d : tie.Need-add-d Inv-loop μ-loop
 add-d c = search needs

@@ -67,7 +67,9 @@ loop-again c =
     )
 
 returns : tie.Need-returns Inv-loop μ-loop
-returns c = let e : c .before .loop .k ≡ c .before .before .args .m = omega arith in rw e at (c .before .loop .inv .2)
+returns c =
+    let e : c .before .loop .k ≡ c .before .before .args .m = omega arith in
+    (c .before .loop .inv .1, rw e at (c .before .loop .inv .2))
 
 pub count-spec : {M : Type 1} → statement M
 count-spec =
