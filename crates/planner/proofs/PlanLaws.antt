@@ -9,7 +9,7 @@ use borrow.Author.Tests.{lt-ltb, le-ltb}
 use lib.Dec.{eqb, ltb}
 use lib.IntN.{ℤ, pos, _-ℤ_}
 use lib.ListN.{length, getD, drop, take, length-map, length-append}
-use lib.Seq.{sets, sets-eq}
+use lib.Seq.{sets, sets-eq, length-sets}
 use Rattle.rules.specs.Words.{when, keep, below, joined, greatest, worstOf, sum}
 use Rattle.rules.specs.Job.{Job, pieceCount, desk, refused, accepted}
 use Rattle.rules.specs.declared.Refusal.{Refusal}
@@ -147,6 +147,12 @@ module _ (n m : ℕ) (desks durations releases dues befores afters handovers sta
             results-length desks starts finishes latests n,
             length-append (resultsIn n desks starts finishes latests) (runsIn 32 count desks pieces froms untils),
           )
+
+      -- And so they have behind the result records.
+      pub runs-fit-behind : (mid : List ℕ) → mid ≡ sets buffer 0 (resultsIn n desks starts finishes latests)
+        → 16 * n + length (runsIn 32 count desks pieces froms untils) ≤ length mid
+      runs-fit-behind mid put =
+          omega (arith, runs-fit, ap length put, length-sets buffer 0 (resultsIn n desks starts finishes latests))
 
       accepted-here : planOutcome file (length buffer) ≡ accepted J
       unfolding planOutcome thenJudge unlessShort when
