@@ -23,10 +23,10 @@ module _ {b : List ℕ} {at : ℕ} {xs mid : List ℕ} {next : ℕ} (p : Puts b 
   -- More bytes behind.
   pub puts-then : {ys after : List ℕ} {end : ℕ} → Puts mid next ys after end → Puts b at (xs ++ ys) after end
   puts-then {ys} {after} {end} q = record {
-      written = q .written ∙ ap (λ l. sets l next ys) (p .written) ∙ ap (λ k. sets (sets b at xs) k ys) (p .past)
+    written = q .written ∙ ap (λ l. sets l next ys) (p .written) ∙ ap (λ k. sets (sets b at xs) k ys) (p .past)
         ∙ sets-on b at xs ys;
-      past = omega (arith, q .past, p .past, length-append xs ys);
-    }
+    past = omega (arith, q .past, p .past, length-append xs ys);
+  }
 
   -- One byte behind.
   pub puts-byte : (v : ℕ) → Puts b at (xs ++ (v ∷ [])) (set mid next v) (next + 1)
@@ -37,7 +37,7 @@ puts-none b at = record { written = refl; past = omega arith }
 
 -- A part of the bytes, and one byte more.
 pub puts-more : (b bytes : List ℕ) (at k : ℕ) → k < length bytes
-  → set (sets b at (take k bytes)) (at + k) (getD bytes k 0) ≡ sets b at (take (k + 1) bytes)
+    → set (sets b at (take k bytes)) (at + k) (getD bytes k 0) ≡ sets b at (take (k + 1) bytes)
 puts-more b bytes at k h =
     let len : length (take k bytes) ≡ k = length-take-le k bytes (omega arith) in
     ap (λ i. set (sets b at (take k bytes)) i (getD bytes k 0)) (ap (λ i. at + i) (sym len))
@@ -66,9 +66,9 @@ few-digits zero n = omega arith
 few-digits (suc k) n = by-test (ltb n 10)
     (λ e. rw (one-digit (suc k) n (omega arith) (ltb-true n 10 e)) (omega arith))
     (λ e. let q : suc k - 1 ≡ k = omega arith in
-      let ih : length (digitsWithin (suc k - 1) (n / 10)) ≤ k = rw q (few-digits k (n / 10)) in
-      rw (more-digits (suc k) n (omega arith) (ltb-false n 10 e))
-      (omega (arith, length-append (digitsWithin (suc k - 1) (n / 10)) ((48 + n % 10) ∷ []))))
+    let ih : length (digitsWithin (suc k - 1) (n / 10)) ≤ k = rw q (few-digits k (n / 10)) in
+    rw (more-digits (suc k) n (omega arith) (ltb-false n 10 e))
+    (omega (arith, length-append (digitsWithin (suc k - 1) (n / 10)) ((48 + n % 10) ∷ []))))
 
 pub number-fits : (n : ℕ) → length (digits n) ≤ 20
 unfolding digits
@@ -81,11 +81,11 @@ signed-fits (negsuc n) = omega (arith, number-fits (n + 1))
 
 -- A signed number: a minus sign and what it is below zero, or the number itself.
 pub puts-minus : {b after : List ℕ} {at r : ℕ} (z : ℤ) (n k : ℕ) → z ≡ negsuc n → k ≡ n + 1
-  → Puts (set b at 45) (at + 1) (digits k) after r → Puts b at (signedDigits z) after r
+    → Puts (set b at 45) (at + 1) (digits k) after r → Puts b at (signedDigits z) after r
 unfolding signedDigits
 puts-minus {b} {at = at} z n k e q p = rw (e, ← q) (puts-then (puts-byte (puts-none b at) 45) p)
 
 pub puts-plus : {b after : List ℕ} {at r : ℕ} (z : ℤ) (n k : ℕ) → z ≡ pos n → k ≡ n
-  → Puts b at (digits k) after r → Puts b at (signedDigits z) after r
+    → Puts b at (digits k) after r → Puts b at (signedDigits z) after r
 unfolding signedDigits
 puts-plus z n k e q p = rw (e, ← q) p

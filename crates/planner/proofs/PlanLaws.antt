@@ -150,7 +150,7 @@ module _ (n m : ℕ) (desks durations releases dues befores afters handovers sta
 
       -- And so they have behind the result records.
       pub runs-fit-behind : (mid : List ℕ) → mid ≡ sets buffer 0 (resultsIn n desks starts finishes latests)
-        → 16 * n + length (runsIn 32 count desks pieces froms untils) ≤ length mid
+          → 16 * n + length (runsIn 32 count desks pieces froms untils) ≤ length mid
       runs-fit-behind mid put =
           omega (arith, runs-fit, ap length put, length-sets buffer 0 (resultsIn n desks starts finishes latests))
 

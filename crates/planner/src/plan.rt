@@ -22,7 +22,14 @@ ghost use Rattle.planner.specs.Judged.{Planable, ToPlan, refusedAnswer};
 fn refused(refusal: Refusal) -> PlanAnswer
     ensures { λ r. ⌜ r ≡ refusedAnswer refusal ⌝ }
 {
-    PlanAnswer { number: refusal.number, place: refusal.place, pieces: 0, runs: 0, end: 0, worst: 0 }
+    PlanAnswer {
+        number: refusal.number,
+        place: refusal.place,
+        pieces: 0,
+        runs: 0,
+        end: 0,
+        worst: 0,
+    }
 }
 
 // The accepted job in its tables, with room for its records: plans it, writes the records and answers.
@@ -42,7 +49,15 @@ fn write_plan(
     ensures { λ r. ⌜ ((file : List ℕ) → fileOutcome file ≡ accepted (jobIn pieces links (now (desks .entry)) (now (durations .entry)) (now (releases .entry)) (now (dues .entry)) (now (befores .entry)) (now (afters .entry)) (now (handovers .entry))) → PlanPromise file (now (buffer .entry)) r (now (buffer .exit))) ⌝ }
 {
     let mut latests = [0i32; 256];
-    latest_moments(pieces, links, durations, dues, befores, afters, &mut latests);
+    latest_moments(
+        pieces,
+        links,
+        durations,
+        dues,
+        befores,
+        afters,
+        &mut latests,
+    );
     let mut starts = [0u32; 256];
     let mut finishes = [0u32; 256];
     let mut run_pieces = [0u16; 512];
@@ -66,10 +81,25 @@ fn write_plan(
         &mut untils,
     );
     put_results(pieces, desks, &starts, &finishes, &latests, buffer);
-    put_runs(runs, desks, &run_pieces, &froms, &untils, 16 * pieces, buffer);
+    put_runs(
+        runs,
+        desks,
+        &run_pieces,
+        &froms,
+        &untils,
+        16 * pieces,
+        buffer,
+    );
     let end = largest_finish(pieces, &finishes);
     let worst = worst_lateness(pieces, &finishes, &latests);
-    PlanAnswer { number: 0, place: 0, pieces: pieces as u32, runs: runs as u32, end, worst }
+    PlanAnswer {
+        number: 0,
+        place: 0,
+        pieces: pieces as u32,
+        runs: runs as u32,
+        end,
+        worst,
+    }
 }
 
 // An accepted job: 12 where the lent buffer is too short, and else the plan.
@@ -89,9 +119,23 @@ fn plan_accepted(
     ensures { λ r. ⌜ ((file : List ℕ) → fileOutcome file ≡ accepted (jobIn pieces links (now (desks .entry)) (now (durations .entry)) (now (releases .entry)) (now (dues .entry)) (now (befores .entry)) (now (afters .entry)) (now (handovers .entry))) → PlanPromise file (now (buffer .entry)) r (now (buffer .exit))) ⌝ }
 {
     if buffer.len() < 48 * pieces {
-        return refused(Refusal { number: 12, place: 0 });
+        return refused(Refusal {
+            number: 12,
+            place: 0,
+        });
     }
-    write_plan(pieces, links, desks, durations, releases, dues, befores, afters, handovers, buffer)
+    write_plan(
+        pieces,
+        links,
+        desks,
+        durations,
+        releases,
+        dues,
+        befores,
+        afters,
+        handovers,
+        buffer,
+    )
 }
 
 // THE PLAN: takes every file and every lent buffer, and answers or refuses by a number on the list.

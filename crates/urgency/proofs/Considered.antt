@@ -48,7 +48,7 @@ unfolding endWith when
 nobody-ends t left x next h = rw (le-ltb x 256 h)
 
 pub ends-first : (t : ℕ) (left : List ℕ) (x next k : ℕ) → x ≤ 255 → k ≡ next - t → getD left x 0 < k
-  → t + getD left x 0 ≡ endWith t left x next
+    → t + getD left x 0 ≡ endWith t left x next
 unfolding endWith when
 ends-first t left x next k h e l = rw (lt-ltb x 256 (omega arith)) (omega arith)
 

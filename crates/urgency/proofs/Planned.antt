@@ -60,7 +60,7 @@ module _ (n m : ℕ) (desks durations releases dues befores afters handovers : L
     unfolding linkIn
     named =
         let count : length (job .links) ≡ m =
-            ap length (tables .links-are) ∙ length-map (below m) (linkIn befores afters handovers) ∙ length-below m in
+        ap length (tables .links-are) ∙ length-map (below m) (linkIn befores afters handovers) ∙ length-below m in
         record {
           few = rw count at (g .sound .few-links);
           before-one = λ k h. omega (arith, fit k h .before-one, g .sound .few-pieces);
@@ -69,10 +69,10 @@ module _ (n m : ℕ) (desks durations releases dues befores afters handovers : L
 
     -- Before the first slot.
     pub before-first : (left ready starts finishes waits last pieces froms untils : List ℕ)
-      → Begun n durations releases left ready starts finishes → length waits ≡ 256
-      → ((i : ℕ) → i < 256 → getD waits i 0 ≡ intoOf afters i m) → length last ≡ 32
-      → ((d : ℕ) → d < 32 → getD last d 0 ≡ 512) → length pieces ≡ 512 → length froms ≡ 512 → length untils ≡ 512
-      → Held job n desks 0 (work left starts finishes) (waiting waits ready) (log 0 last pieces froms untils)
+        → Begun n durations releases left ready starts finishes → length waits ≡ 256
+        → ((i : ℕ) → i < 256 → getD waits i 0 ≡ intoOf afters i m) → length last ≡ 32
+        → ((d : ℕ) → d < 32 → getD last d 0 ≡ 512) → length pieces ≡ 512 → length froms ≡ 512 → length untils ≡ 512
+        → Held job n desks 0 (work left starts finishes) (waiting waits ready) (log 0 last pieces froms untils)
     before-first left ready starts finishes waits last pieces froms untils b ws w ls l ps fs us = record {
       in-time = omega arith;
       working = begun-work job (g .sound) n (tables .count) durations (tables .duration-is) (work left starts finishes)
@@ -97,11 +97,11 @@ module _ (n m : ℕ) (desks durations releases dues befores afters handovers : L
 
       -- One step more, with what the code made of the tables.
       pub goes : next < never → (w′ : Work) (s′ : Waiting) (l′ : Log) → w′ ≡ workTo durations t next chosen 32 w
-        → l′ ≡ noteTo t next chosen 32 l → s′ ≡ handTo (ties desks befores afters handovers) m next (w′ .left) chosen 32 s
-        → Held job n desks next w′ s′ l′
+          → l′ ≡ noteTo t next chosen 32 l → s′ ≡ handTo (ties desks befores afters handovers) m next (w′ .left) chosen 32 s
+          → Held job n desks next w′ s′ l′
       goes c w′ s′ l′ a b d =
           let k = step job (g .sound) (g .free) n m desks durations releases befores afters handovers latests tables t w s l (h .held)
-              (rw (h .next-is) at c) in
+          (rw (h .next-is) at c) in
           rw (d, b, a, h .chosen-is, h .next-is) k
 
       -- No step is left.
@@ -111,8 +111,11 @@ module _ (n m : ℕ) (desks durations releases dues befores afters handovers : L
           (sym (h .next-is) ∙ top)
         where
           top : next ≡ never
-          top = omega (arith, h .next-is,
-            at-most job (g .sound) (g .free) n m desks durations releases befores afters handovers latests tables t w s l (h .held))
+          top = omega (
+            arith,
+            h .next-is,
+            at-most job (g .sound) (g .free) n m desks durations releases befores afters handovers latests tables t w s l (h .held),
+          )
 
       pub planned : never ≤ next → Planned job n desks (w .start) (w .finish) (l .piece) (l .from) (l .until) (l .runs)
       unfolding start finish
@@ -120,7 +123,7 @@ module _ (n m : ℕ) (desks durations releases dues befores afters handovers : L
           let e : Ended job t = all-done c in
           let f : Ended job (horizon job) = all-finished job (g .sound) (g .free) in
           let same : (i : ℕ) → i < n → at job t i ≡ at job (horizon job) i =
-              λ i b. ended-same job t (horizon job) e f i (rw (tables .count) b) in
+          λ i b. ended-same job t (horizon job) e f i (rw (tables .count) b) in
           record {
             start-is = λ i b. h .held .working .start-is i b ∙ ap (λ p. p .start) (same i b);
             finish-is = λ i b. h .held .working .finish-is i b ∙ ap (λ p. p .finish) (same i b);

@@ -1,6 +1,5 @@
 // Who every desk works on from a moment on, and until when nothing is decided anew.
 use crate::work;
-
 ghost use mathlib.Core.Path.{_≡_};
 ghost use Prim.Native.Nat.{ℕ, _<_, _≤_, min};
 ghost use lib.ListN.{getD};

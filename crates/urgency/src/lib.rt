@@ -78,7 +78,20 @@ pub fn plan(
     while next < 4294967295 {
         work::work_all(t, next, durations, &chosen, &mut left, start, finish);
         runs = log::note_all(t, next, runs, &chosen, &mut last, piece, from, until);
-        handover::hand_all(m, next, desks, befores, afters, handovers, &tail, &prior, &chosen, &left, &mut waits, &mut ready);
+        handover::hand_all(
+            m,
+            next,
+            desks,
+            befores,
+            afters,
+            handovers,
+            &tail,
+            &prior,
+            &chosen,
+            &left,
+            &mut waits,
+            &mut ready,
+        );
         t = next;
         next = choice::decide(n, t, desks, latests, &left, &waits, &ready, &mut chosen);
     }

@@ -31,9 +31,11 @@ abbrev μ-loop : tie.MeasureT-loop
 begin-requires : tie.Need-begin-requires Inv-loop μ-loop
 begin-requires c κs =
     let s = c .before .before .before .before in
-    let a = s .args in
-    (few (a .n) (a .m) (a .desks .now) (a .durations .now) (a .releases .now) (a .dues .now) (a .befores .now) (a .afters .now)
-    (a .handovers .now) (a .latests .now) (s .pre .0), (refl, refl, s .pre .1 .starts-sized, s .pre .1 .finishes-sized))
+    let a = s .args in (
+      few (a .n) (a .m) (a .desks .now) (a .durations .now) (a .releases .now) (a .dues .now) (a .befores .now) (a .afters .now)
+          (a .handovers .now) (a .latests .now) (s .pre .0),
+      (refl, refl, s .pre .1 .starts-sized, s .pre .1 .finishes-sized),
+    )
 
 count-requires : tie.Need-count-requires Inv-loop μ-loop
 count-requires c κs =
@@ -60,10 +62,12 @@ chain-links-requires c κs =
 decide-requires : tie.Need-decide-requires Inv-loop μ-loop
 decide-requires c κs =
     let s = c .before .before .before .before .before .before .before .before .before .before .before .before .before .before in
-    let a = s .args in
-    (few (a .n) (a .m) (a .desks .now) (a .durations .now) (a .releases .now) (a .dues .now) (a .befores .now) (a .afters .now)
-    (a .handovers .now) (a .latests .now) (s .pre .0), desks-few (a .n) (a .m) (a .desks .now) (a .durations .now) (a .releases .now) (a .dues .now) (a .befores .now) (a .afters .now)
-    (a .handovers .now) (a .latests .now) (s .pre .0))
+    let a = s .args in (
+      few (a .n) (a .m) (a .desks .now) (a .durations .now) (a .releases .now) (a .dues .now) (a .befores .now) (a .afters .now)
+          (a .handovers .now) (a .latests .now) (s .pre .0),
+      desks-few (a .n) (a .m) (a .desks .now) (a .durations .now) (a .releases .now) (a .dues .now) (a .befores .now) (a .afters .now)
+          (a .handovers .now) (a .latests .now) (s .pre .0),
+    )
 
 loop-holds : tie.Need-loop-holds Inv-loop μ-loop
 loop-holds c =
@@ -71,7 +75,7 @@ loop-holds c =
     let a = s .args in
     record {
       held = before-first (a .n) (a .m) (a .desks .now) (a .durations .now) (a .releases .now) (a .dues .now) (a .befores .now) (a .afters .now)
-    (a .handovers .now) (a .latests .now) (s .pre .0) _ _ _ _ _ _ _ _ _ (c .before .before .before .before .before .before .before .before .before .before .begin .ensures)
+          (a .handovers .now) (a .latests .now) (s .pre .0) _ _ _ _ _ _ _ _ _ (c .before .before .before .before .before .before .before .before .before .before .begin .ensures)
           (c .before .before .before .before .before .before .before .before .count .ensures .0) (c .before .before .before .before .before .before .before .before .count .ensures .1) refl (λ d h. getD-replicate 32 d 512 0 h)
           (s .pre .1 .pieces-sized) (s .pre .1 .froms-sized) (s .pre .1 .untils-sized);
       chosen-is = c .decide .ensures .0;
@@ -88,34 +92,45 @@ hand-all-requires : tie.Need-hand-all-requires Inv-loop μ-loop
 hand-all-requires c κs =
     let s = c .before .before .before .before .before .before .before .before .before .before .before .before .before .before .before .before .before .before .before .before .before .before .before .before .before .before .before .before .before .before .before .before .before .before in
     let a = s .args in
-    let l = c .before .before .before .before .before .before .before .before .before .before .before .before .before .before .before .before .before .before .loop in
-    ( named (a .n) (a .m) (a .desks .now) (a .durations .now) (a .releases .now) (a .dues .now) (a .befores .now) (a .afters .now)
-    (a .handovers .now) (a .latests .now) (s .pre .0)
-    , (c .before .before .before .before .before .before .before .before .before .before .before .before .before .before .before .before .before .before .before .before .before .before .before .before .chain-links .ensures
-      , omega (arith, next-small (a .n) (a .m) (a .desks .now) (a .durations .now) (a .releases .now) (a .dues .now) (a .befores .now) (a .afters .now)
-    (a .handovers .now) (a .latests .now) (s .pre .0) (l .t) (l .next) (work (l .left) (l .start) (l .finish)) (waiting (l .waits) (l .ready))
-    (log (l .runs) (l .last) (l .piece) (l .from) (l .until)) (l .chosen) (l .inv)
-          (c .before .before .before .before .before .before .before .before .before .before .before .before .before .before .before .before .before .loop-test .taken))))
+    let l = c .before .before .before .before .before .before .before .before .before .before .before .before .before .before .before .before .before .before .loop in (
+      named (a .n) (a .m) (a .desks .now) (a .durations .now) (a .releases .now) (a .dues .now) (a .befores .now) (a .afters .now)
+          (a .handovers .now) (a .latests .now) (s .pre .0),
+      (
+        c .before .before .before .before .before .before .before .before .before .before .before .before .before .before .before .before .before .before .before .before .before .before .before .before .chain-links .ensures,
+        omega (
+          arith,
+          next-small (a .n) (a .m) (a .desks .now) (a .durations .now) (a .releases .now) (a .dues .now) (a .befores .now) (a .afters .now)
+              (a .handovers .now) (a .latests .now) (s .pre .0) (l .t) (l .next) (work (l .left) (l .start) (l .finish)) (waiting (l .waits) (l .ready))
+              (log (l .runs) (l .last) (l .piece) (l .from) (l .until)) (l .chosen) (l .inv)
+              (c .before .before .before .before .before .before .before .before .before .before .before .before .before .before .before .before .before .loop-test .taken),
+        ),
+      ),
+    )
 
 decide-requires-2 : tie.Need-decide-requires-2 Inv-loop μ-loop
 decide-requires-2 c κs =
     let s = c .before .before .before .before .before .before .before .before .before .before .before .before .before .before .before .before .before .before .before .before .before .before .before .before .before .before .before .before .before .before .before .before .before .before .before .before .before .before .before in
-    let a = s .args in
-    (few (a .n) (a .m) (a .desks .now) (a .durations .now) (a .releases .now) (a .dues .now) (a .befores .now) (a .afters .now)
-    (a .handovers .now) (a .latests .now) (s .pre .0), desks-few (a .n) (a .m) (a .desks .now) (a .durations .now) (a .releases .now) (a .dues .now) (a .befores .now) (a .afters .now)
-    (a .handovers .now) (a .latests .now) (s .pre .0))
+    let a = s .args in (
+      few (a .n) (a .m) (a .desks .now) (a .durations .now) (a .releases .now) (a .dues .now) (a .befores .now) (a .afters .now)
+          (a .handovers .now) (a .latests .now) (s .pre .0),
+      desks-few (a .n) (a .m) (a .desks .now) (a .durations .now) (a .releases .now) (a .dues .now) (a .befores .now) (a .afters .now)
+          (a .handovers .now) (a .latests .now) (s .pre .0),
+    )
 
 loop-less : tie.Need-loop-less Inv-loop μ-loop
 loop-less c =
     let s = c .before .before .before .before .before .before .before .before .before .before .before .before .before .before .before .before .before .before .before .before .before .before .before .before .before .before .before .before .before .before .before .before .before .before .before .before .before .before .before .before in
     let a = s .args in
     let l = c .before .before .before .before .before .before .before .before .before .before .before .before .before .before .before .before .before .before .before .before .before .before .before .before .loop in
-    omega (arith, next-ahead (a .n) (a .m) (a .desks .now) (a .durations .now) (a .releases .now) (a .dues .now) (a .befores .now) (a .afters .now)
-    (a .handovers .now) (a .latests .now) (s .pre .0) (l .t) (l .next) (work (l .left) (l .start) (l .finish)) (waiting (l .waits) (l .ready))
-    (log (l .runs) (l .last) (l .piece) (l .from) (l .until)) (l .chosen) (l .inv),
+    omega (
+      arith,
+      next-ahead (a .n) (a .m) (a .desks .now) (a .durations .now) (a .releases .now) (a .dues .now) (a .befores .now) (a .afters .now)
+          (a .handovers .now) (a .latests .now) (s .pre .0) (l .t) (l .next) (work (l .left) (l .start) (l .finish)) (waiting (l .waits) (l .ready))
+          (log (l .runs) (l .last) (l .piece) (l .from) (l .until)) (l .chosen) (l .inv),
       next-within (a .n) (a .m) (a .desks .now) (a .durations .now) (a .releases .now) (a .dues .now) (a .befores .now) (a .afters .now)
-    (a .handovers .now) (a .latests .now) (s .pre .0) (l .t) (l .next) (work (l .left) (l .start) (l .finish)) (waiting (l .waits) (l .ready))
-    (log (l .runs) (l .last) (l .piece) (l .from) (l .until)) (l .chosen) (l .inv) (c .before .before .before .before .before .before .before .before .before .before .before .before .before .before .before .before .before .before .before .before .before .before .before .loop-test .taken))
+          (a .handovers .now) (a .latests .now) (s .pre .0) (l .t) (l .next) (work (l .left) (l .start) (l .finish)) (waiting (l .waits) (l .ready))
+          (log (l .runs) (l .last) (l .piece) (l .from) (l .until)) (l .chosen) (l .inv) (c .before .before .before .before .before .before .before .before .before .before .before .before .before .before .before .before .before .before .before .before .before .before .before .loop-test .taken),
+    )
 
 loop-again : tie.Need-loop-again Inv-loop μ-loop
 loop-again c =
@@ -124,8 +139,8 @@ loop-again c =
     let l = c .before .before .before .before .before .before .before .before .before .before .before .before .before .before .before .before .before .before .before .before .before .before .before .before .loop in
     record {
       held = goes (a .n) (a .m) (a .desks .now) (a .durations .now) (a .releases .now) (a .dues .now) (a .befores .now) (a .afters .now)
-    (a .handovers .now) (a .latests .now) (s .pre .0) (l .t) (l .next) (work (l .left) (l .start) (l .finish)) (waiting (l .waits) (l .ready))
-    (log (l .runs) (l .last) (l .piece) (l .from) (l .until)) (l .chosen) (l .inv) (c .before .before .before .before .before .before .before .before .before .before .before .before .before .before .before .before .before .before .before .before .before .before .before .loop-test .taken) _ _ _
+          (a .handovers .now) (a .latests .now) (s .pre .0) (l .t) (l .next) (work (l .left) (l .start) (l .finish)) (waiting (l .waits) (l .ready))
+          (log (l .runs) (l .last) (l .piece) (l .from) (l .until)) (l .chosen) (l .inv) (c .before .before .before .before .before .before .before .before .before .before .before .before .before .before .before .before .before .before .before .before .before .before .before .loop-test .taken) _ _ _
           (c .before .before .before .before .before .before .before .before .before .before .before .before .before .before .before .before .before .before .work-all .ensures) (c .before .before .before .before .before .before .before .before .before .before .before .before .note-all .ensures) (c .before .before .before .before .before .hand-all .ensures);
       chosen-is = c .decide2 .ensures .0;
       next-is = c .decide2 .ensures .1;

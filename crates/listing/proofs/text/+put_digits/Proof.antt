@@ -29,7 +29,7 @@ put-digits-returns :
     (put-digits-below t, put-digits.Post)
     (put-digits-at t)
     put-digits.Post
-put-digits-returns t c = 
+put-digits-returns t c =
     let a = c .before .before .args in
     let q : a .most ≡ 0 = c .if1 .taken in
     rw (q, no-digits (a .n)) (puts-none (a .text .now) (a .at))
@@ -71,7 +71,7 @@ put-digits-returns-2 : (t : ℕ) → put-digits-lts.Need-returns-2 (
   put-digits-below t,
   put-digits.Post,
 ) (put-digits-at t) put-digits.Post
-put-digits-returns-2 t c = 
+put-digits-returns-2 t c =
     let a = c .before .before .before .args in
     rw (one-digit (a .most) (a .n) (omega arith) (omega arith)) (puts-byte (puts-none (a .text .now) (a .at)) (48 + a .n))
 

@@ -38,9 +38,11 @@ loop-less c = omega arith
 loop-again : tie.Need-loop-again Inv-loop μ-loop
 loop-again c =
     let a = c .before .before .before .args in
-    let L = c .before .before .loop in
-    (omega arith, length-set (L .text) _ _ ∙ L .inv .1,
-      ap (λ l. set l (a .at + L .k) (getD (a .bytes .now) (L .k) 0)) (L .inv .2) ∙ puts-more (a .text .now) (a .bytes .now) (a .at) (L .k) (omega arith))
+    let L = c .before .before .loop in (
+      omega arith,
+      length-set (L .text) _ _ ∙ L .inv .1,
+      ap (λ l. set l (a .at + L .k) (getD (a .bytes .now) (L .k) 0)) (L .inv .2) ∙ puts-more (a .text .now) (a .bytes .now) (a .at) (L .k) (omega arith),
+    )
 
 add-result : tie.Need-add-result Inv-loop μ-loop
 add-result c = omega arith
@@ -54,7 +56,7 @@ returns c =
     let q : c .before .loop .k ≡ length (a .bytes .now) = omega arith in
     record {
       written = c .before .loop .inv .2 ∙ ap (λ k. sets (a .text .now) (a .at) (take k (a .bytes .now))) q
-        ∙ ap (sets (a .text .now) (a .at)) (take-length (a .bytes .now));
+          ∙ ap (sets (a .text .now) (a .at)) (take-length (a .bytes .now));
       past = ap (λ k. a .at + k) q;
     }
 

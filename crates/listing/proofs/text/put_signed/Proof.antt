@@ -57,7 +57,7 @@ returns c =
     let fit : SFits w32 (pos (b .deep)) = record { sfits = b .small } in
     puts-minus (a .z) (b .deep) _ (b .is)
     (ap (λ x. natAbs (toZ w32 (ofZ w32 (negsuc 0 -ℤ x))) + 1) (toZ-ofZ (c .before .before .before .before .before .before .fits .z) ∙ b .is)
-      ∙ ap (λ x. natAbs (toZ w32 (ofZ w32 x)) + 1) (from-minus-one (b .deep)) ∙ ap (λ x. natAbs x + 1) (toZ-ofZ fit))
+    ∙ ap (λ x. natAbs (toZ w32 (ofZ w32 x)) + 1) (from-minus-one (b .deep)) ∙ ap (λ x. natAbs x + 1) (toZ-ofZ fit))
     (c .before .before .put-number .ensures)
 
 cast-put-number-2 : tie.Need-cast-put-number-2

@@ -1,3 +1,6 @@
+-- `plan_accepted` meets its contract: refused 12 where the buffer is too short, and else the plan.
+use native.Mathlib.Omega.{arith}
+use Rattle.planner.proofs.WriteLaws.{answered-short}
 use borrow.Author.Needs.{needs}
 use Rattle.planner.proofs.plan.plan_accepted.Statement.{statement}
 use Rattle.planner.proofs.plan.plan_accepted.Tie as tie
@@ -13,7 +16,9 @@ refused-requires : tie.Need-refused-requires
 refused-requires c κs = search needs
 
 returns : tie.Need-returns
-returns c = ?
+returns c file says =
+    let a = c .before .before .before .args in
+    answered-short file (a .buffer .now) (a .pieces) (a .links) _ _ _ _ _ _ _ _ (c .refused .ensures) says (omega arith)
 
 write-plan-requires : tie.Need-write-plan-requires
 write-plan-requires c κs = search needs

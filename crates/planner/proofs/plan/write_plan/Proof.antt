@@ -27,9 +27,10 @@ latest-moments-requires c κs =
 plan-requires : tie.Need-plan-requires
 plan-requires c κs =
     let a = c .before .before .before .before .before .before .before .before .before .args in
-    let P = c .before .before .before .before .before .before .before .before .before .pre .planable in
-    (given-here (a .pieces) (a .links) (a .desks .now) (a .durations .now) (a .releases .now) (a .dues .now) (a .befores .now) (a .afters .now) (a .handovers .now) P _ (c .before .before .before .before .before .before .latest-moments .ensures),
-      record { starts-sized = refl; finishes-sized = refl; pieces-sized = refl; froms-sized = refl; untils-sized = refl })
+    let P = c .before .before .before .before .before .before .before .before .before .pre .planable in (
+      given-here (a .pieces) (a .links) (a .desks .now) (a .durations .now) (a .releases .now) (a .dues .now) (a .befores .now) (a .afters .now) (a .handovers .now) P _ (c .before .before .before .before .before .before .latest-moments .ensures),
+      record { starts-sized = refl; finishes-sized = refl; pieces-sized = refl; froms-sized = refl; untils-sized = refl },
+    )
 
 put-results-requires : tie.Need-put-results-requires
 put-results-requires c κs = search needs
@@ -44,9 +45,10 @@ put-runs-requires c κs =
     let timed = c .before .before .before .before .before .before .before .before .before .before .before .before .before .before .before .before .before .before .latest-moments .ensures in
     let planned = c .before .before .before .before .before .before .before .before .before .before .before .plan .ensures in
     let F = finished-here (a .pieces) (a .links) (a .desks .now) (a .durations .now) (a .releases .now) (a .dues .now) (a .befores .now) (a .afters .now) (a .handovers .now) P _ timed _ _ _ _ _ _ planned in
-    let put = c .before .before .before .before .before .before .put-results .ensures in
-    (log-fits (a .pieces) (a .links) (a .desks .now) (a .durations .now) (a .releases .now) (a .dues .now) (a .befores .now) (a .afters .now) (a .handovers .now) P _ timed _ _ _ _ _ _ planned,
-      runs-fit-behind (a .pieces) (a .links) (a .desks .now) (a .durations .now) (a .releases .now) (a .dues .now) (a .befores .now) (a .afters .now) (a .handovers .now) _ _ _ _ _ _ _ (sound-here (a .pieces) (a .links) (a .desks .now) (a .durations .now) (a .releases .now) (a .dues .now) (a .befores .now) (a .afters .now) (a .handovers .now) P) F (P .file) (a .buffer .now) (P .says) (c .before .before .before .before .before .before .before .before .before .before .before .before .before .before .before .before .before .before .before .before .before .pre .enough) _ put)
+    let put = c .before .before .before .before .before .before .put-results .ensures in (
+      log-fits (a .pieces) (a .links) (a .desks .now) (a .durations .now) (a .releases .now) (a .dues .now) (a .befores .now) (a .afters .now) (a .handovers .now) P _ timed _ _ _ _ _ _ planned,
+      runs-fit-behind (a .pieces) (a .links) (a .desks .now) (a .durations .now) (a .releases .now) (a .dues .now) (a .befores .now) (a .afters .now) (a .handovers .now) _ _ _ _ _ _ _ (sound-here (a .pieces) (a .links) (a .desks .now) (a .durations .now) (a .releases .now) (a .dues .now) (a .befores .now) (a .afters .now) (a .handovers .now) P) F (P .file) (a .buffer .now) (P .says) (c .before .before .before .before .before .before .before .before .before .before .before .before .before .before .before .before .before .before .before .before .before .pre .enough) _ put,
+    )
 
 largest-finish-requires : tie.Need-largest-finish-requires
 largest-finish-requires c κs = c .before .before .before .before .before .before .before .before .before .before .before .before .before .before .before .before .before .before .before .before .before .before .before .before .before .pre .planable .few-pieces
