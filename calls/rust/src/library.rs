@@ -2,10 +2,10 @@
 //! against the library's source, so they are few, and all are on numbers and byte slices.
 //!
 //! Why it is sound: the library's functions are proved for every input to end, to read nothing but the
-//! slices and to write nothing but the lent buffer and the answer. A slice's pointer holds for its length; that
-//! of an empty slice dangles, but it is aligned and not null, which is all that a length of 0 asks. The borrow
-//! checker sees to it that a lent buffer overlaps no file, and the answers are this module's own. The library
-//! keeps no state and no pointer, so calls from several threads do not meet.
+//! slices and to write nothing but the lent buffer and the answer. A slice's pointer holds for its length;
+//! that of an empty slice dangles, but it is aligned and not null, which is all that a length of 0 asks. The
+//! borrow checker sees to it that a lent buffer overlaps no file, and the answers are this module's own. The
+//! library keeps no state and no pointer, so calls from several threads do not meet.
 
 #![allow(unsafe_code)]
 
