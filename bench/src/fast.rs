@@ -1,0 +1,82 @@
+//! A fast planner in plain Rust, by the method of the proved one: decision moments instead of slots, an order
+//! of the pieces by Kahn's rule, and blocks cut in place. It is the yardstick of the benchmark and is held
+//! against the second planner by the tests of this package.
+
+mod file;
+mod links;
+mod plan;
+mod rings;
+mod sheet;
+mod write;
+
+use desk::{BlockAnswer, PlanAnswer, Refusal, ROOM_FOR_A_PIECE};
+use file::Job;
+use links::Links;
+
+/// Plans every desk of the file and lays the records into the buffer.
+pub fn plan(file: &[u8], buffer: &mut [u8]) -> PlanAnswer {
+    try_plan(file, buffer).unwrap_or_else(|Refusal { number, place }| PlanAnswer {
+        number,
+        place,
+        ..PlanAnswer::default()
+    })
+}
+
+/// Works out the block sheet of one desk and lays its records into the buffer.
+pub fn blocks(file: &[u8], desk: u8, buffer: &mut [u8]) -> BlockAnswer {
+    try_blocks(file, desk, buffer).unwrap_or_else(|Refusal { number, place }| BlockAnswer {
+        number,
+        place,
+        ..BlockAnswer::default()
+    })
+}
+
+/// The run records of one desk, as a part of the caller's own slice.
+pub fn runs(records: &[u8], desk: u8) -> &[u8] {
+    let is_run = |record: &[u8]| record[0] == 18 && record[1] == desk;
+    let mut whole = records.chunks_exact(16);
+    let Some(first) = whole.position(is_run) else { return &records[..0] };
+    let count = 1 + whole.take_while(|record| is_run(record)).count();
+    &records[16 * first..16 * (first + count)]
+}
+
+fn try_plan(file: &[u8], buffer: &mut [u8]) -> Result<PlanAnswer, Refusal> {
+    let (job, links, order) = accept(file)?;
+    ask_room(&job, buffer)?;
+    let plan = plan::make(&job, &links, &order);
+    write::plan(&job, &plan, buffer);
+    let (pieces, runs) = (job.pieces as i64, plan.runs().len() as i64);
+    let (end, worst) = (plan.end(&job).into(), plan.worst(&job).into());
+    Ok(PlanAnswer { number: 0, place: 0, pieces, runs, end, worst })
+}
+
+fn try_blocks(file: &[u8], desk: u8, buffer: &mut [u8]) -> Result<BlockAnswer, Refusal> {
+    let (job, links, order) = accept(file)?;
+    if desk > 31 {
+        return Err(Refusal { number: 13, place: 0 });
+    }
+    ask_room(&job, buffer)?;
+    let plan = plan::make(&job, &links, &order);
+    let sheet = sheet::make(&job, &links, &order, &plan, desk);
+    write::sheet(desk, &sheet, buffer);
+    let (blocks, runs) = (sheet.blocks().len() as i64, sheet.runs().len() as i64);
+    Ok(BlockAnswer { number: 0, place: 0, blocks, runs, worst: sheet.worst().into() })
+}
+
+/// The contents of a file without a fault and without a ring, and an order in which every piece comes after
+/// the pieces before it.
+fn accept(file: &[u8]) -> Result<(Job, Links, [u8; 256]), Refusal> {
+    let job = file::read(file)?;
+    let links = Links::of(&job);
+    match rings::order(job.pieces, &links) {
+        Ok(order) => Ok((job, links, order)),
+        Err(lowest) => Err(Refusal { number: 11, place: lowest.into() }),
+    }
+}
+
+fn ask_room(job: &Job, buffer: &[u8]) -> Result<(), Refusal> {
+    match buffer.len() < ROOM_FOR_A_PIECE * job.pieces {
+        true => Err(Refusal { number: 12, place: 0 }),
+        false => Ok(()),
+    }
+}
