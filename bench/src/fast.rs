@@ -12,6 +12,8 @@ mod write;
 use desk::{BlockAnswer, PlanAnswer, Refusal, ROOM_FOR_A_PIECE};
 use file::Job;
 use links::Links;
+use plan::Plan;
+use sheet::Sheet;
 
 /// Plans every desk of the file and lays the records into the buffer.
 pub fn plan(file: &[u8], buffer: &mut [u8]) -> PlanAnswer {
@@ -41,36 +43,52 @@ pub fn runs(records: &[u8], desk: u8) -> &[u8] {
 }
 
 fn try_plan(file: &[u8], buffer: &mut [u8]) -> Result<PlanAnswer, Refusal> {
-    let (job, links, order) = accept(file)?;
-    ask_room(&job, buffer)?;
-    let plan = plan::make(&job, &links, &order);
-    write::plan(&job, &plan, buffer);
+    let mut tables = Tables::EMPTY;
+    tables.accept(file)?;
+    let Tables { job, links, order } = &tables;
+    ask_room(job, buffer)?;
+    let mut plan = Plan::EMPTY;
+    plan::make(job, links, order, &mut plan);
+    write::plan(job, &plan, buffer);
     let (pieces, runs) = (job.pieces as i64, plan.runs().len() as i64);
-    let (end, worst) = (plan.end(&job).into(), plan.worst(&job).into());
+    let (end, worst) = (plan.end(job).into(), plan.worst(job).into());
     Ok(PlanAnswer { number: 0, place: 0, pieces, runs, end, worst })
 }
 
 fn try_blocks(file: &[u8], desk: u8, buffer: &mut [u8]) -> Result<BlockAnswer, Refusal> {
-    let (job, links, order) = accept(file)?;
+    let mut tables = Tables::EMPTY;
+    tables.accept(file)?;
+    let Tables { job, links, order } = &tables;
     if desk > 31 {
         return Err(Refusal { number: 13, place: 0 });
     }
-    ask_room(&job, buffer)?;
-    let plan = plan::make(&job, &links, &order);
-    let sheet = sheet::make(&job, &links, &order, &plan, desk);
+    ask_room(job, buffer)?;
+    let mut plan = Plan::EMPTY;
+    plan::make(job, links, order, &mut plan);
+    let mut sheet = Sheet::EMPTY;
+    sheet::make(job, links, order, &plan, desk, &mut sheet);
     write::sheet(desk, &sheet, buffer);
     let (blocks, runs) = (sheet.blocks().len() as i64, sheet.runs().len() as i64);
     Ok(BlockAnswer { number: 0, place: 0, blocks, runs, worst: sheet.worst().into() })
 }
 
-/// The contents of a file without a fault and without a ring, and an order in which every piece comes after
-/// the pieces before it.
-fn accept(file: &[u8]) -> Result<(Job, Links, [u8; 256]), Refusal> {
-    let job = file::read(file)?;
-    let links = Links::of(&job);
-    match rings::order(job.pieces, &links) {
-        Ok(order) => Ok((job, links, order)),
-        Err(lowest) => Err(Refusal { number: 11, place: lowest.into() }),
+/// What a file holds. All tables are filled in place, since moving them costs more than a small plan.
+struct Tables {
+    job: Job,
+    links: Links,
+    /// All pieces, each behind the pieces before it.
+    order: [u8; 256],
+}
+
+impl Tables {
+    const EMPTY: Tables = Tables { job: Job::EMPTY, links: Links::EMPTY, order: [0; 256] };
+
+    /// Takes in a file without a fault and without a ring.
+    fn accept(&mut self, file: &[u8]) -> Result<(), Refusal> {
+        file::read(file, &mut self.job)?;
+        self.links.fill(&self.job);
+        let on_a_ring = |lowest: u8| Refusal { number: 11, place: lowest.into() };
+        rings::order(self.job.pieces, &self.links, &mut self.order).map_err(on_a_ring)
     }
 }
 

@@ -15,14 +15,10 @@ fn main() -> ExitCode {
     let words: Vec<String> = std::env::args().skip(1).collect();
     let words: Vec<&str> = words.iter().map(String::as_str).collect();
     let tasks = tasks();
-    if let Some(task) = tasks.iter().find(|task| !task.agrees()) {
-        eprintln!("{} {}: the two sides differ", task.shape, task.call.name());
-        return ExitCode::FAILURE;
-    }
     match words[..] {
-        [] => print_table(&tasks, &Counts::new()),
+        [] => return print_table(&tasks, &Counts::new()),
         ["--counts", file] => match std::fs::read_to_string(file) {
-            Ok(text) => print_table(&tasks, &count::read(&text)),
+            Ok(text) => return print_table(&tasks, &count::read(&text)),
             Err(error) => {
                 eprintln!("{file}: {error}");
                 return ExitCode::FAILURE;
@@ -53,8 +49,12 @@ fn print_list(tasks: &[Task]) {
     }
 }
 
-fn print_table(tasks: &[Task], counts: &Counts) {
-    println!("Median time of one call. Both sides answer alike on every line.");
+fn print_table(tasks: &[Task], counts: &Counts) -> ExitCode {
+    if let Some(task) = tasks.iter().find(|task| !task.agrees()) {
+        eprintln!("{} {}: the two sides differ", task.shape, task.call.name());
+        return ExitCode::FAILURE;
+    }
+    println!("Median time and instructions of one call. Both sides answer alike on every line.");
     println!("Buffers are made once and not cleared between calls.\n");
     for shape in shapes::all() {
         println!("- {}: {}", shape.name, shape.what);
@@ -63,4 +63,5 @@ fn print_table(tasks: &[Task], counts: &Counts) {
     for task in tasks {
         println!("{}", table::line(task, medians(task), counts));
     }
+    ExitCode::SUCCESS
 }

@@ -1,5 +1,6 @@
-//! Full files of several shapes, always the same ones. Each makes another part of a planner work hardest:
-//! following links, looking over many open pieces, interrupting, cutting blocks, searching rings, reading.
+//! Full files of several shapes and a small one, always the same ones. Each full one makes another part of a
+//! planner work hardest: following links, looking over many open pieces, interrupting, cutting blocks,
+//! searching rings, reading.
 
 /// A file with its name in the table, and a word on it.
 pub struct Shape {
@@ -13,7 +14,19 @@ pub struct Shape {
 pub fn all() -> Vec<Shape> {
     let shape = |name, what, file, desk| Shape { name, what, file, desk };
     vec![
-        shape("chain", "256 pieces, each behind the one before, over 32 desks", chain(), Some(7)),
+        shape("small", "3 pieces and a link, the first sheet of the rules page", small(), Some(0)),
+        shape(
+            "chain",
+            "256 pieces in one chain over 32 desks, links in its order",
+            chain(),
+            Some(7),
+        ),
+        shape(
+            "turned",
+            "the same chain, its links in the file from last to first",
+            turned(),
+            Some(7),
+        ),
         shape("wide", "256 pieces on 8 desks, no links", wide(), Some(3)),
         shape("desks", "256 pieces on 32 desks, 256 links", mixed(32, 256), Some(31)),
         shape("links", "256 pieces on 4 desks, 1,024 links", mixed(4, 1024), Some(2)),
@@ -28,9 +41,20 @@ pub fn all() -> Vec<Shape> {
     ]
 }
 
+fn small() -> Vec<u8> {
+    [piece(0, 4, 0, 20), piece(0, 2, 1, 5), piece(1, 3, 0, 12), link(0, 2, 2)].concat()
+}
+
 fn chain() -> Vec<u8> {
     let pieces = (0..256u16).flat_map(|number| piece(number as u8 % 32, 40, 0, 10_000));
     let links = (1..256).flat_map(|after| link(after - 1, after, 4));
+    pieces.chain(links).collect()
+}
+
+/// The order of links in a file changes no plan, but a planner may visit them more often.
+fn turned() -> Vec<u8> {
+    let pieces = (0..256u16).flat_map(|number| piece(number as u8 % 32, 40, 0, 10_000));
+    let links = (1..256).rev().flat_map(|after| link(after - 1, after, 4));
     pieces.chain(links).collect()
 }
 

@@ -36,7 +36,7 @@ fn the_shapes_as_described() {
         let shape = shapes.iter().find(|shape| shape.name == name).unwrap();
         fast::plan(&shape.file, &mut [0; desk::ROOM])
     };
-    for name in ["chain", "wide", "desks", "links", "nested"] {
+    for name in ["chain", "turned", "wide", "desks", "links", "nested"] {
         assert_eq!((answer(name).number, answer(name).pieces), (0, 256), "{name}");
     }
     assert_eq!(answer("nested").runs, 511);

@@ -15,8 +15,24 @@ pub struct Job {
     pub handover: [u16; 1024],
 }
 
-pub fn read(file: &[u8]) -> Result<Job, Refusal> {
-    let mut job = Job {
+/// Fills the tables of an empty job.
+pub fn read(file: &[u8], job: &mut Job) -> Result<(), Refusal> {
+    let records = file.chunks_exact(16);
+    let left = records.remainder().len();
+    for (place, record) in records.enumerate() {
+        let record = record.try_into().expect("a chunk of just this length");
+        if let Err(number) = job.take(record) {
+            return Err(Refusal { number, place: place as i64 });
+        }
+    }
+    match left {
+        0 => Ok(()),
+        _ => Err(Refusal { number: 1, place: (file.len() / 16) as i64 }),
+    }
+}
+
+impl Job {
+    pub const EMPTY: Job = Job {
         pieces: 0,
         links: 0,
         desk: [0; 256],
@@ -27,21 +43,7 @@ pub fn read(file: &[u8]) -> Result<Job, Refusal> {
         after: [0; 1024],
         handover: [0; 1024],
     };
-    let records = file.chunks_exact(16);
-    let left = records.remainder().len();
-    for (place, record) in records.enumerate() {
-        let record = record.try_into().expect("a chunk of just this length");
-        if let Err(number) = job.take(record) {
-            return Err(Refusal { number, place: place as i64 });
-        }
-    }
-    match left {
-        0 => Ok(job),
-        _ => Err(Refusal { number: 1, place: (file.len() / 16) as i64 }),
-    }
-}
 
-impl Job {
     fn take(&mut self, record: &[u8; 16]) -> Result<(), i64> {
         match record[0] {
             1 => self.take_piece(record),

@@ -4,7 +4,7 @@
 use super::file::Job;
 use super::links::Links;
 
-#[derive(Clone, Copy, Default)]
+#[derive(Clone, Copy)]
 pub struct Run {
     pub desk: u8,
     pub piece: u8,
@@ -22,6 +22,14 @@ pub struct Plan {
 }
 
 impl Plan {
+    pub const EMPTY: Plan = Plan {
+        latest: [0; 256],
+        start: [0; 256],
+        finish: [0; 256],
+        log: [Run { desk: 0, piece: 0, from: 0, until: 0 }; 512],
+        logged: 0,
+    };
+
     pub fn runs(&self) -> &[Run] {
         &self.log[..self.logged]
     }
@@ -37,28 +45,24 @@ impl Plan {
 }
 
 /// Each link once, from the last pieces back.
-fn latest_moments(job: &Job, links: &Links, order: &[u8; 256]) -> [i32; 256] {
-    let mut latest = job.due;
+fn latest_moments(job: &Job, links: &Links, order: &[u8; 256], latest: &mut [i32; 256]) {
     for &piece in order[..job.pieces].iter().rev() {
         let bounds = links.from(piece).iter().map(|follower| {
             let after = usize::from(follower.piece);
             latest[after] - job.duration[after] as i32
         });
         let least = bounds.min().unwrap_or(i32::MAX);
-        latest[usize::from(piece)] = latest[usize::from(piece)].min(least);
+        latest[usize::from(piece)] = job.due[usize::from(piece)].min(least);
     }
-    latest
 }
 
 /// Plans a file that has no ring.
-pub fn make(job: &Job, links: &Links, order: &[u8; 256]) -> Plan {
-    let latest = latest_moments(job, links, order);
+pub fn make(job: &Job, links: &Links, order: &[u8; 256], plan: &mut Plan) {
+    latest_moments(job, links, order, &mut plan.latest);
     let mut work = Work {
+        job,
         links,
-        // One number to compare: the latest moment, above -2^18, and then the piece.
-        urgency: std::array::from_fn(|piece| {
-            ((latest[piece] + (1 << 18)) as u32) << 8 | piece as u32
-        }),
+        urgency: [0; 256],
         left: job.duration,
         waits: links.into,
         ready: job.release,
@@ -66,27 +70,23 @@ pub fn make(job: &Job, links: &Links, order: &[u8; 256]) -> Plan {
         place: [0; 256],
         opened: 0,
         last: [usize::MAX; 32],
-        plan: Plan {
-            latest,
-            start: [u32::MAX; 256],
-            finish: [0; 256],
-            log: [Run::default(); 512],
-            logged: 0,
-        },
+        plan,
     };
     for piece in 0..job.pieces {
+        // One number to compare: the latest moment, above -2^18, and then the piece.
+        work.urgency[piece] = ((work.plan.latest[piece] + (1 << 18)) as u32) << 8 | piece as u32;
         if work.waits[piece] == 0 {
             work.open(piece as u8);
         }
     }
     let mut moment = 0;
     while work.opened > 0 {
-        moment = work.pass(&job.desk, moment);
+        moment = work.pass(moment);
     }
-    work.plan
 }
 
 struct Work<'a> {
+    job: &'a Job,
     links: &'a Links,
     urgency: [u32; 256],
     left: [u32; 256],
@@ -98,12 +98,12 @@ struct Work<'a> {
     opened: usize,
     /// The last run of each desk.
     last: [usize; 32],
-    plan: Plan,
+    plan: &'a mut Plan,
 }
 
 impl Work<'_> {
     /// Chooses for every desk and works up to the next decision moment, which is the answer.
-    fn pass(&mut self, desks: &[u8; 256], moment: u32) -> u32 {
+    fn pass(&mut self, moment: u32) -> u32 {
         let mut best = [u32::MAX; 32];
         let mut busy: u32 = 0;
         let mut next = u32::MAX;
@@ -112,7 +112,7 @@ impl Work<'_> {
             if self.ready[piece] > moment {
                 next = next.min(self.ready[piece]);
             } else {
-                let desk = desks[piece] % 32;
+                let desk = self.job.desk[piece] % 32;
                 let so_far = &mut best[usize::from(desk)];
                 *so_far = self.urgency[piece].min(*so_far);
                 busy |= 1 << desk;
@@ -130,7 +130,9 @@ impl Work<'_> {
     /// The desk works on the piece from one moment to another.
     fn spend(&mut self, desk: usize, piece: u8, from: u32, until: u32) {
         let at = usize::from(piece);
-        self.plan.start[at] = self.plan.start[at].min(from);
+        if self.left[at] == self.job.duration[at] {
+            self.plan.start[at] = from;
+        }
         match self.plan.log.get_mut(self.last[desk]) {
             Some(run) if run.piece == piece && run.until == from => run.until = until,
             _ => {

@@ -3,10 +3,9 @@
 
 use super::links::Links;
 
-/// All pieces, each behind the pieces before it; or the lowest piece on a ring.
-pub fn order(pieces: usize, links: &Links) -> Result<[u8; 256], u8> {
+/// Puts all pieces in an order, each behind the pieces before it; or gives the lowest piece on a ring.
+pub fn order(pieces: usize, links: &Links, order: &mut [u8; 256]) -> Result<(), u8> {
     let mut waits = links.into;
-    let mut order = [0; 256];
     let mut count = 0;
     for (piece, _) in waits[..pieces].iter().enumerate().filter(|(_, &waiting)| waiting == 0) {
         order[count] = piece as u8;
@@ -25,7 +24,7 @@ pub fn order(pieces: usize, links: &Links) -> Result<[u8; 256], u8> {
         done += 1;
     }
     if count == pieces {
-        return Ok(order);
+        return Ok(());
     }
     // Pieces behind a ring are left over too, so each is asked whether it leads back to itself.
     let mut left = (0..pieces).filter(|&piece| waits[piece] > 0).map(|piece| piece as u8);

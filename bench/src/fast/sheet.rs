@@ -5,7 +5,7 @@ use super::file::Job;
 use super::links::Links;
 use super::plan::Plan;
 
-#[derive(Clone, Copy, Default)]
+#[derive(Clone, Copy)]
 struct Entry {
     number: u8,
     ready: u32,
@@ -14,7 +14,7 @@ struct Entry {
 }
 
 /// Of a block the number is its count of pieces, of a run the piece.
-#[derive(Clone, Copy, Default)]
+#[derive(Clone, Copy)]
 pub struct Stretch {
     pub number: u16,
     pub from: u32,
@@ -29,7 +29,13 @@ pub struct Sheet {
     worst: i32,
 }
 
+const NO_ENTRY: Entry = Entry { number: 0, ready: 0, duration: 0, latest: 0 };
+const NO_STRETCH: Stretch = Stretch { number: 0, from: 0, until: 0 };
+
 impl Sheet {
+    pub const EMPTY: Sheet =
+        Sheet { blocks: [NO_STRETCH; 256], cut: 0, runs: [NO_STRETCH; 512], logged: 0, worst: 0 };
+
     pub fn blocks(&self) -> &[Stretch] {
         &self.blocks[..self.cut]
     }
@@ -39,9 +45,6 @@ impl Sheet {
     }
 
     pub fn worst(&self) -> i32 {
-        if self.cut == 0 {
-            return 0;
-        }
         self.worst
     }
 
@@ -51,9 +54,10 @@ impl Sheet {
     }
 }
 
-pub fn make(job: &Job, links: &Links, order: &[u8; 256], plan: &Plan, desk: u8) -> Sheet {
+/// Fills an empty sheet.
+pub fn make(job: &Job, links: &Links, order: &[u8; 256], plan: &Plan, desk: u8, sheet: &mut Sheet) {
     let raised = raised_moments(job, links, order, plan);
-    let mut entries = [Entry::default(); 256];
+    let mut entries = [NO_ENTRY; 256];
     let mut count = 0;
     for number in (0..job.pieces).filter(|&number| job.desk[number] == desk) {
         let (ready, duration) = (raised[number], job.duration[number]);
@@ -63,23 +67,18 @@ pub fn make(job: &Job, links: &Links, order: &[u8; 256], plan: &Plan, desk: u8) 
     }
     let entries = &mut entries[..count];
     entries.sort_unstable_by_key(|entry| (entry.ready, entry.number));
-    let mut sheet = Sheet {
-        blocks: [Stretch::default(); 256],
-        cut: 0,
-        runs: [Stretch::default(); 512],
-        logged: 0,
-        worst: i32::MIN,
-    };
     let mut marks = Marks { of_block: [0; 256], last: 0 };
     let mut left = entries;
+    if !left.is_empty() {
+        sheet.worst = i32::MIN;
+    }
     while let Some(block) = first_block(left) {
         sheet.blocks[sheet.cut] = block;
         sheet.cut += 1;
         let (inside, behind) = left.split_at_mut(block.number.into());
-        solve(inside, block, links, &mut marks, &mut sheet);
+        solve(inside, block, links, &mut marks, sheet);
         left = behind;
     }
-    sheet
 }
 
 /// Releases, what other desks hand over, and the raised ready moments of the pieces before on the same desk.
