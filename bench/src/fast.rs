@@ -1,7 +1,7 @@
 //! A fast planner in plain Rust, by the method of the proved one: decision moments with one pass over the
-//! pieces each, an order of the pieces by Kahn's rule, blocks cut and solved in turn. Where the rules leave it
-//! open it does less: latest moments in one pass over that order, only open pieces looked at, and of a block
-//! only its choice asked for followers. It is the benchmark's yardstick, tested against the second planner.
+//! pieces each, an order of the pieces by Kahn's rule, blocks cut and solved in turn. Where the rules leave
+//! it open it does less: latest moments in one pass over that order, only open pieces looked at, and of a
+//! block only its choice asked for followers. It is the benchmark's yardstick, tested by the second planner.
 
 mod file;
 mod links;
