@@ -77,13 +77,13 @@ joined-more f n =
 
 -- The same for those that pass a test.
 pub kept-more : {A : Type 0} (p : ℕ → Bool) (f : ℕ → List A) (n : ℕ) → p n ≡ true
-  → joined (map f (keep p (below (suc n)))) ≡ joined (map f (keep p (below n))) ++ f n
+    → joined (map f (keep p (below (suc n)))) ≡ joined (map f (keep p (below n))) ++ f n
 unfolding joined keep when
 kept-more p f n e =
     ap (λ l. joined (map f (keep p l))) (below-more n) ∙ ap (λ l. joined (map f l)) (keep-append p (below n) (n ∷ []))
     ∙ rw (e, when) (ap joined (map-append f (keep p (below n)) (n ∷ []))
-      ∙ joined-append (map f (keep p (below n))) (f n ∷ [])
-      ∙ ap (λ r. joined (map f (keep p (below n))) ++ r) (append-nil (f n)))
+    ∙ joined-append (map f (keep p (below n))) (f n ∷ [])
+    ∙ ap (λ r. joined (map f (keep p (below n))) ++ r) (append-nil (f n)))
 
 pub not-kept-more : (p : ℕ → Bool) (n : ℕ) → p n ≡ false → keep p (below (suc n)) ≡ keep p (below n)
 unfolding keep when

@@ -1,6 +1,6 @@
 -- Chains: one key more at the end of its chain leaves the other chains as they are.
 use Prim.Native.Nat.{ℕ, zero, suc, _+_, _≤_, _<_}
-use mathlib.Core.Bool.{true, false}
+use mathlib.Core.Bool.{Bool, true, false}
 use mathlib.Core.List.{List}
 use mathlib.Core.Path.{_≡_, refl, sym, ap, _∙_}
 use native.Mathlib.Numerals.{add-one}
@@ -40,3 +40,33 @@ chained-more keys k last prior h small room = rw add-one (record {
       (λ e. let q : j ≡ k = omega (arith, ltb-false j k e) in
       rw q (getD-set-same prior k (getD last (getD keys k 0) 0) 0 (omega (arith, h .prior-sized)) ∙ h .ends (getD keys k 0) small));
 })
+
+-- A chain is walked from `last` on by `prior`. A link on it has the chain's key; the next on it stands at a lower place;
+-- and no link with that key is passed over, so that whatever only such a link changes is carried along the chain.
+module _ (keys : List ℕ) (i : ℕ) where
+  pub chain-most : (n : ℕ) → lastWith keys i n ≤ n
+  unfolding lastWith
+  chain-most zero = omega arith
+  chain-most (suc n) =
+      let ih : lastWith keys i n ≤ n = chain-most n in
+      by-test (eqb (getD keys n 0) i) (λ e. rw (e, when) (omega arith)) (λ e. rw (e, when) (omega arith))
+
+  pub chain-key : (n k : ℕ) → lastWith keys i n ≡ suc k → (k < n) × (getD keys k 0 ≡ i)
+  unfolding lastWith when
+  chain-key zero k h = absurd (omega arith)
+  chain-key (suc n) k h = go (eqb (getD keys n 0) i) refl h (λ g. chain-key n k g)
+    where
+      go : (b : Bool) → eqb (getD keys n 0) i ≡ b → when b (suc n) (lastWith keys i n) ≡ suc k
+          → (lastWith keys i n ≡ suc k → (k < n) × (getD keys k 0 ≡ i)) → (k < suc n) × (getD keys k 0 ≡ i)
+      go true e g ih =
+          let z : n ≡ k = omega arith in (omega arith, ap (λ x. getD keys x 0) (sym z) ∙ eqb-true (getD keys n 0) i e)
+      go false e g ih = let w = ih g in (omega (arith, w .0), w .1)
+
+  pub chain-skip : {A : Type 0} (g : ℕ → A) (n : ℕ)
+      → ((k : ℕ) → k < n → (getD keys k 0 ≡ i → ⊥) → g (suc k) ≡ g k) → g (lastWith keys i n) ≡ g n
+  unfolding lastWith
+  chain-skip g zero h = refl
+  chain-skip g (suc n) h = by-test (eqb (getD keys n 0) i)
+      (λ e. ap g (when-true _ (suc n) (lastWith keys i n) e))
+      (λ e. ap g (when-false _ (suc n) (lastWith keys i n) e) ∙ chain-skip g n (λ k l. h k (omega arith))
+      ∙ sym (h n (omega arith) (eqb-false (getD keys n 0) i e)))

@@ -1,1 +1,5 @@
 pub mod Chains
+pub mod Links
+pub mod Queue
+pub mod Rings
+pub mod Moments

@@ -10,7 +10,7 @@ use lib.Seq.{sets}
 use lib.Dec.{eqb}
 use Rattle.rules.specs.Words.{keep, below, joined}
 use Rattle.rules.specs.Bytes.{word, signedWord, planRecord, runRecord}
-use Rattle.urgency.specs.Log.{runAt, loggedRuns}
+use Rattle.steps.specs.Log.{runAt, loggedRuns}
 
 unfoldable pub resultIn : List ℕ → List ℕ → List ℕ → List ℤ → ℕ → List ℕ
 unfolding planRecord word signedWord

@@ -21,7 +21,16 @@ pub fn put_results(
     let mut i = 0;
     while i < n {
         let latest = signed_word(latests[i]);
-        put_record(buffer, 16 * i, 17, desks[i], i as u16, starts[i], finishes[i], latest);
+        put_record(
+            buffer,
+            16 * i,
+            17,
+            desks[i],
+            i as u16,
+            starts[i],
+            finishes[i],
+            latest,
+        );
         i += 1;
     }
 }

@@ -24,8 +24,12 @@ module _ (J : Job) where
   ended-rests t e j d = by-choice (worked J d (t + j))
       (λ q. q)
       (λ i q. let w = worked-chosen J d (t + j) i q .waits in
-        absurd (omega (arith, w .unfinished, e i (w .inside),
-          ap (λ p. p .left) (finished-for-good J j t i (w .inside) (e i (w .inside))))))
+      absurd (omega (
+        arith,
+        w .unfinished,
+        e i (w .inside),
+        ap (λ p. p .left) (finished-for-good J j t i (w .inside) (e i (w .inside))),
+      )))
 
   -- At a later moment, and at any other at which every piece is finished.
   ended-later : (t k : ℕ) → Ended J t → (i : ℕ) → i < pieceCount J → at J (t + k) i ≡ at J t i

@@ -25,7 +25,7 @@ grown-last (x ∷ []) r i t k = refl
 grown-last (x ∷ y ∷ A) r i t k = ap (λ l. x ∷ l) (grown-last (y ∷ A) r i t k)
 
 pub grown-on : (A : List Run) (r : Run) (i t k : ℕ) → r .piece ≡ i → r .until ≡ t
-  → grown (A ++ (r ∷ [])) i t k ≡ A ++ (longer r k ∷ [])
+    → grown (A ++ (r ∷ [])) i t k ≡ A ++ (longer r k ∷ [])
 unfolding grown goesOnAt
 grown-on A r i t k p q = grown-last A r i t k ∙ rw (eq-eqb _ i p, eq-eqb _ t q, when)
 
@@ -34,12 +34,16 @@ unfolding goesOnAt
 goes-on r i t h =
     let w = and-true (eqb (r .piece) i) (eqb (r .until) t) h in (eqb-true _ i (w .0), eqb-true _ t (w .1))
 
+pub going-on : (r : Run) (i t : ℕ) → r .piece ≡ i → r .until ≡ t → goesOnAt r i t ≡ true
+unfolding goesOnAt
+going-on r i t p q = rw (eq-eqb (r .piece) i p, eq-eqb (r .until) t q)
+
 other-piece : (r : Run) (i t : ℕ) → eqb (r .piece) i ≡ false → goesOnAt r i t ≡ false
 unfolding goesOnAt
 other-piece r i t h = rw h
 
 pub grown-anew : (A : List Run) (r : Run) (i t k : ℕ) → goesOnAt r i t ≡ false
-  → grown (A ++ (r ∷ [])) i t k ≡ (A ++ (r ∷ [])) ++ (freshRun i t k ∷ [])
+    → grown (A ++ (r ∷ [])) i t k ≡ (A ++ (r ∷ [])) ++ (freshRun i t k ∷ [])
 unfolding grown
 grown-anew A r i t k p =
     grown-last A r i t k ∙ rw (p, when) (sym (append-assoc A (r ∷ []) (freshRun i t k ∷ [])))
@@ -56,17 +60,20 @@ grown-twice A i t j k = by-last (λ l. grown (grown l i t j) i (t + j) k ≡ gro
   where
     further : t + j + k ≡ t + (j + k)
     further = omega arith
+
     fresh-on : (B : List Run) → grown (B ++ (freshRun i t j ∷ [])) i (t + j) k ≡ B ++ (freshRun i t (j + k) ∷ [])
     fresh-on B = grown-on B (freshRun i t j) i (t + j) k refl refl ∙ rw further
+
     nothing : grown (grown [] i t j) i (t + j) k ≡ grown [] i t (j + k)
     nothing = fresh-on []
+
     last : (B : List Run) (r : Run) → grown (grown (B ++ (r ∷ [])) i t j) i (t + j) k ≡ grown (B ++ (r ∷ [])) i t (j + k)
     last B r = by-test (goesOnAt r i t)
         (λ e. let w = goes-on r i t e in
-          let u : r .until + j + k ≡ r .until + (j + k) = omega arith in
-          let v : r .slots + j + k ≡ r .slots + (j + k) = omega arith in
-          rw (grown-on B r i t j (w .0) (w .1), grown-on B r i t (j + k) (w .0) (w .1))
-          (grown-on B (longer r j) i (t + j) k (w .0) (ap (λ x. x + j) (w .1)) ∙ rw (u, v)))
+        let u : r .until + j + k ≡ r .until + (j + k) = omega arith in
+        let v : r .slots + j + k ≡ r .slots + (j + k) = omega arith in
+        rw (grown-on B r i t j (w .0) (w .1), grown-on B r i t (j + k) (w .0) (w .1))
+        (grown-on B (longer r j) i (t + j) k (w .0) (ap (λ x. x + j) (w .1)) ∙ rw (u, v)))
         (λ e. rw (grown-anew B r i t j e, grown-anew B r i t (j + k) e) (fresh-on (B ++ (r ∷ []))))
 
 -- The last run of a list is over before moment t.
@@ -106,6 +113,7 @@ module _ (w : ℕ → Option ℕ) where
   -- What is closed already, the run under way and the runs of the slots to come are the runs as they grow.
   mutual
     unfolding runsFrom row grownOver turn afterTurn closing goesOn nextRun when
+
     closed-grown : (n t : ℕ) (A : List Run) → Over A t → A ++ runsFrom none (map turn (row t n)) ≡ grownOver A t n
     closed-grown zero t A o = append-nil A
     closed-grown (suc n) t A o = by-choice (w t)
@@ -113,15 +121,15 @@ module _ (w : ℕ → Option ℕ) where
         (λ i e. rw (e, grown-over A i t 1 o) (under-way-grown n (suc t) A (freshRun i t 1) (omega arith)))
 
     under-way-grown : (n t : ℕ) (A : List Run) (r : Run) → r .until ≡ t
-      → A ++ runsFrom (some r) (map turn (row t n)) ≡ grownOver (A ++ (r ∷ [])) t n
+        → A ++ runsFrom (some r) (map turn (row t n)) ≡ grownOver (A ++ (r ∷ [])) t n
     under-way-grown zero t A r e = refl
     under-way-grown (suc n) t A r e = by-choice (w t)
         (λ q. rw q (sym (append-assoc A (r ∷ []) _) ∙ closed-grown n (suc t) (A ++ (r ∷ [])) (over-last A r (suc t) (omega arith))))
         (λ i q. by-test (eqb (r .piece) i)
-          (λ a. rw (q, a, grown-on A r i t 1 (eqb-true _ i a) e, e, when)
-            (under-way-grown n (suc t) A (longerRun r t) (omega arith)))
-          (λ a. rw (q, a, grown-anew A r i t 1 (other-piece r i t a), when)
-            (sym (append-assoc A (r ∷ []) _) ∙ under-way-grown n (suc t) (A ++ (r ∷ [])) (newRun i t) (omega arith))))
+        (λ a. rw (q, a, grown-on A r i t 1 (eqb-true _ i a) e, e, when)
+        (under-way-grown n (suc t) A (longerRun r t) (omega arith)))
+        (λ a. rw (q, a, grown-anew A r i t 1 (other-piece r i t a), when)
+        (sym (append-assoc A (r ∷ []) _) ∙ under-way-grown n (suc t) (A ++ (r ∷ [])) (newRun i t) (omega arith))))
 
 -- The runs of a desk are those that grow until the horizon.
 module _ (J : Job) (d : ℕ) where
@@ -145,7 +153,7 @@ module _ (J : Job) (d : ℕ) where
       rw (z, h k (omega arith)) (runs-resting t k (λ j l. h j (omega arith)))
 
   pub runs-working : (t k i : ℕ) → ((j : ℕ) → j < suc k → worked J d (t + j) ≡ some i)
-    → runsUntil J d (t + suc k) ≡ grown (runsUntil J d t) i t (suc k)
+      → runsUntil J d (t + suc k) ≡ grown (runsUntil J d t) i t (suc k)
   unfolding runsUntil afterTurn
   runs-working t zero i h =
       let a : t + 1 ≡ suc t = omega arith in

@@ -43,13 +43,13 @@ unfolding grown lastPiece lastEnd
 grown-ends A i t k = by-last (λ l. (lastPiece (grown l i t k) ≡ some i) × (lastEnd (grown l i t k) ≡ t + k)) A (refl, refl) more
   where
     more : (B : List Run) (r : Run)
-      → (lastPiece (grown (B ++ (r ∷ [])) i t k) ≡ some i) × (lastEnd (grown (B ++ (r ∷ [])) i t k) ≡ t + k)
+        → (lastPiece (grown (B ++ (r ∷ [])) i t k) ≡ some i) × (lastEnd (grown (B ++ (r ∷ [])) i t k) ≡ t + k)
     more B r = by-test (goesOnAt r i t)
         (λ e. let w = goes-on r i t e in
-          rw (grown-on B r i t k (w .0) (w .1))
-          (last-piece B (longer r k) ∙ ap some (w .0), last-end B (longer r k) ∙ ap (λ x. x + k) (w .1)))
+        rw (grown-on B r i t k (w .0) (w .1))
+        (last-piece B (longer r k) ∙ ap some (w .0), last-end B (longer r k) ∙ ap (λ x. x + k) (w .1)))
         (λ e. rw (grown-anew B r i t k e)
-          (last-piece (B ++ (r ∷ [])) (freshRun i t k), last-end (B ++ (r ∷ [])) (freshRun i t k)))
+        (last-piece (B ++ (r ∷ [])) (freshRun i t k), last-end (B ++ (r ∷ [])) (freshRun i t k)))
 
 module _ (J : Job) where
   pub last-nobody : (d : ℕ) → lastOn J d 0 ≡ none
@@ -74,15 +74,15 @@ module _ (J : Job) where
   last-inside d (suc t) i h = by-choice (worked J d t)
       (λ e. last-inside d t i (sym (last-rested d t e) ∙ h))
       (λ x e. let w = worked-chosen J d t x e .waits in
-        let q : x ≡ i = some-inj (sym (last-worked d t x e) ∙ h) in
-        rw (← q) (w .inside, w .on-desk))
+      let q : x ≡ i = some-inj (sym (last-worked d t x e) ∙ h) in
+      rw (← q) (w .inside, w .on-desk))
 
   -- Before a desk worked at all, nothing is worked off its pieces.
   pub untouched-yet : (d t i : ℕ) → lastOn J d t ≡ none → i < pieceCount J → desk J i ≡ d → at J t i .left ≡ duration J i
   untouched-yet d zero i h l q = ap (λ p. p .left) (work-start J i)
   untouched-yet d (suc t) i h l q = by-choice (worked J d t)
       (λ e. ap (λ p. p .left) (work-off J t i l (λ w. none-or-some (sym e ∙ ap (λ x. worked J x t) (sym q) ∙ w)))
-        ∙ untouched-yet d t i (sym (last-rested d t e) ∙ h) l q)
+      ∙ untouched-yet d t i (sym (last-rested d t e) ∙ h) l q)
       (λ x e. none-or-some (sym h ∙ last-worked d t x e))
 
   module _ (sound : Sound J) where
@@ -91,12 +91,12 @@ module _ (J : Job) where
     ready-stays t i h =
         ready-intro J (workAt J (suc t)) (suc t) i (omega (arith, ready-release J (workAt J t) t i h))
         (λ l m. let f = handed-fact J (workAt J t) t l (ready-before J (workAt J t) t i h l m) in
-          let b = link-fit J sound l (into-link J i l m .0) .before-one in
-          let z : t + 1 ≡ suc t = omega arith in
-          let s : at J (suc t) (l .before) ≡ at J t (l .before) = rw z at (finished-for-good J 1 t (l .before) b (f .0)) in
-          fact-handed J (workAt J (suc t)) (suc t) l
-          (ap (λ p. p .left) s ∙ f .0)
-          (rw s (omega (arith, f .1))))
+        let b = link-fit J sound l (into-link J i l m .0) .before-one in
+        let z : t + 1 ≡ suc t = omega arith in
+        let s : at J (suc t) (l .before) ≡ at J t (l .before) = rw z at (finished-for-good J 1 t (l .before) b (f .0)) in
+        fact-handed J (workAt J (suc t)) (suc t) l
+        (ap (λ p. p .left) s ∙ f .0)
+        (rw s (omega (arith, f .1))))
 
     pub begun-ready : (t i : ℕ) → i < pieceCount J → at J t i .left < duration J i → isReady J (workAt J t) t i ≡ true
     begun-ready zero i h b = absurd (omega (arith, ap (λ p. p .left) (work-start J i)))
@@ -110,7 +110,7 @@ module _ (J : Job) where
       pub on-time : lastEnd (runsUntil J d t) ≡ t
       pub waits : Waits J (workAt J t) d t j
       pub first : (i : ℕ) → i < pieceCount J → desk J i ≡ d → (i ≡ j → ⊥) → at J t i .left < duration J i
-        → 0 < at J t i .left → sooner J j i ≡ true
+          → 0 < at J t i .left → sooner J j i ≡ true
 
     -- The desk rested in slot t: what it worked on last would have been waiting.
     not-resting : (d t j : ℕ) → worked J d t ≡ none → UnderWay d t j → ⊥
@@ -130,7 +130,7 @@ module _ (J : Job) where
           };
           first = λ i h q ne b l.
               let s : at J (suc t) i ≡ at J t i =
-                  work-off J t i h (λ w. ne (some-inj (sym w ∙ ap (λ x. worked J x t) q ∙ e))) in
+              work-off J t i h (λ w. ne (some-inj (sym w ∙ ap (λ x. worked J x t) q ∙ e))) in
               c .first i
               (record {
                 inside = h;
@@ -147,17 +147,17 @@ module _ (J : Job) where
     under-way d zero j h a = none-or-some (sym (last-nobody d) ∙ h)
     under-way d (suc t) j h a = by-choice (worked J d t)
         (λ e. let k : lastOn J d t ≡ some j = sym (last-rested d t e) ∙ h in
-          absurd (not-resting d t j e (under-way d t j k (omega (arith, left-falls J t j (last-inside d t j k .0))))))
+        absurd (not-resting d t j e (under-way d t j k (omega (arith, left-falls J t j (last-inside d t j k .0))))))
         (λ x e. let q : x ≡ j = some-inj (sym (last-worked d t x e) ∙ h) in just-worked d t j (e ∙ ap some q) a)
 
     -- A desk leaves an unfinished piece only for one that was never worked on.
     pub leaves-for-new : (d t j i : ℕ) → lastOn J d t ≡ some j → 0 < at J t j .left → worked J d t ≡ some i → (i ≡ j → ⊥)
-      → at J t i .left ≡ duration J i
+        → at J t i .left ≡ duration J i
     leaves-for-new d t j i h a e ne =
         let u = under-way d t j h a in
         let c = worked-chosen J d t i e in
         by-test (ltb (at J t i .left) (duration J i))
         (λ b. true-or-false
-          (sym (c .first j (u .waits) (λ z. ne (sym z)))
-            ∙ sooner-asym J j i (u .first i (c .waits .inside) (c .waits .on-desk) ne (ltb-true _ _ b) (c .waits .unfinished))))
+        (sym (c .first j (u .waits) (λ z. ne (sym z)))
+        ∙ sooner-asym J j i (u .first i (c .waits .inside) (c .waits .on-desk) ne (ltb-true _ _ b) (c .waits .unfinished))))
         (λ b. omega (arith, ltb-false (at J t i .left) (duration J i) b, left-whole J t i (c .waits .inside)))

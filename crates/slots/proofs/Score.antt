@@ -80,16 +80,19 @@ module _ (J : Job) where
       let done : at J t i .left ≡ 0 = eqb-true _ 0 (w .0) in
       and-intro _ _ (eq-eqb _ 0 (finished-next t i h done))
       (by-choice (worked J (desk J i) t)
-        (λ q. rw (last-rested J (desk J i) t q) (w .1))
-        (λ x q. rw (last-worked J (desk J i) t x q)
-          (ap not (not-it (some x) i (λ z. let c = worked-chosen J (desk J i) t x q .waits .unfinished in
-            omega (arith, rw (some-inj z) at c))))))
+      (λ q. rw (last-rested J (desk J i) t q) (w .1))
+      (λ x q. rw (last-worked J (desk J i) t x q)
+      (ap not (not-it (some x) i (λ z. let c = worked-chosen J (desk J i) t x q .waits .unfinished in
+      omega (arith, rw (some-inj z) at c))))))
 
   score-next : (t i : ℕ) → i < pieceCount J → score J t i ≤ score J (suc t) i
   score-next t i h =
       rw (score-is t i, score-is (suc t) i)
-      (omega (arith, one-more (begun t i) (begun (suc t) i) (begun-stays t i h),
-        one-more (passed t i) (passed (suc t) i) (passed-stays t i h)))
+      (omega (
+        arith,
+        one-more (begun t i) (begun (suc t) i) (begun-stays t i h),
+        one-more (passed t i) (passed (suc t) i) (passed-stays t i h),
+      ))
 
   pub score-grows : (t k i : ℕ) → i < pieceCount J → score J t i ≤ score J (t + k) i
   score-grows t zero i h = let z : t + 0 ≡ t = omega arith in rw z (omega arith)
@@ -100,50 +103,57 @@ module _ (J : Job) where
 
   -- Where a run begins, a piece of the desk counts one more.
   module _ (sound : Sound J) where
-    pub Rises : ℕ → ℕ → Type 0
+    abbrev pub Rises : ℕ → ℕ → Type 0
     Rises d t = (x : ℕ) × (x < pieceCount J) × (desk J x ≡ d) × (score J t x < score J (suc t) x)
 
     -- It is begun with it ..
     new-rises : (d t i : ℕ) → worked J d t ≡ some i → at J t i .left ≡ duration J i → Rises d t
-    unfolding Rises workedOn
+    unfolding workedOn
     new-rises d t i e b =
         let w = worked-chosen J d t i e .waits in
         let f : at J (suc t) i .left ≡ at J t i .left - 1 =
-            ap (λ p. p .left) (work-on J t i (w .inside) (ap (λ x. worked J x t) (w .on-desk) ∙ e)) in
+        ap (λ p. p .left) (work-on J t i (w .inside) (ap (λ x. worked J x t) (w .on-desk) ∙ e)) in
         let u : 0 < at J t i .left = w .unfinished in
         let was : score J t i ≡ 0 =
-            rw (score-is t i)
-            (omega (arith, one-false (begun t i) (le-ltb (at J t i .left) (duration J i) (omega arith)),
-              one-false (passed t i) (not-passed t i u))) in
+        rw (score-is t i)
+        (omega (
+          arith,
+          one-false (begun t i) (le-ltb (at J t i .left) (duration J i) (omega arith)),
+          one-false (passed t i) (not-passed t i u),
+        )) in
         let is : 1 ≤ score J (suc t) i =
-            rw (score-is (suc t) i)
-            (omega (arith, one-true (begun (suc t) i) (lt-ltb (at J (suc t) i .left) (duration J i) (omega arith)))) in
+        rw (score-is (suc t) i)
+        (omega (arith, one-true (begun (suc t) i) (lt-ltb (at J (suc t) i .left) (duration J i) (omega arith)))) in
         (i, w .inside, w .on-desk, omega arith)
 
     -- .. or it was finished before.
     old-rises : (d t i j : ℕ) → worked J d t ≡ some i → lastOn J d t ≡ some j → (i ≡ j → ⊥) → at J t j .left ≡ 0 → Rises d t
-    unfolding Rises
     old-rises d t i j e l ne f =
         let w = last-inside J d t j l in
         let q : desk J j ≡ d = w .1 in
         let b : begun t j ≡ true =
-            lt-ltb (at J t j .left) (duration J j) (omega (arith, fits J sound j (w .0) .duration-least)) in
+        lt-ltb (at J t j .left) (duration J j) (omega (arith, fits J sound j (w .0) .duration-least)) in
         let was : passed t j ≡ false =
-            rw (eq-eqb _ 0 f, q) (ap not (it-is (lastOn J d t) j l)) in
+        rw (eq-eqb _ 0 f, q) (ap not (it-is (lastOn J d t) j l)) in
         let is : passed (suc t) j ≡ true =
-            rw (eq-eqb _ 0 (finished-next t j (w .0) f), q, last-worked J d t i e)
-            (ap not (not-it (some i) j (λ z. ne (some-inj z)))) in
+        rw (eq-eqb _ 0 (finished-next t j (w .0) f), q, last-worked J d t i e)
+        (ap not (not-it (some i) j (λ z. ne (some-inj z)))) in
         let less : score J t j < score J (suc t) j =
-            rw (score-is t j, score-is (suc t) j)
-            (omega (arith, one-true (begun t j) b, one-false (passed t j) was,
-              one-true (begun (suc t) j) (begun-stays t j (w .0) b), one-true (passed (suc t) j) is)) in
+        rw (score-is t j, score-is (suc t) j)
+        (omega (
+          arith,
+          one-true (begun t j) b,
+          one-false (passed t j) was,
+          one-true (begun (suc t) j) (begun-stays t j (w .0) b),
+          one-true (passed (suc t) j) is,
+        )) in
         (j, w .0, q, less)
 
     pub run-rises : (d t i : ℕ) → worked J d t ≡ some i → (lastOn J d t ≡ some i → ⊥) → Rises d t
     run-rises d t i e ne = by-choice (lastOn J d t)
         (λ l. let w = worked-chosen J d t i e .waits in
-          new-rises d t i e (untouched-yet J d t i l (w .inside) (w .on-desk)))
+        new-rises d t i e (untouched-yet J d t i l (w .inside) (w .on-desk)))
         (λ j l. by-test (eqb (at J t j .left) 0)
-          (λ f. old-rises d t i j e l (λ z. ne (l ∙ ap some (sym z))) (eqb-true _ 0 f))
-          (λ f. new-rises d t i e (leaves-for-new J sound d t j i l (omega (arith, eqb-false (at J t j .left) 0 f)) e
-            (λ z. ne (l ∙ ap some (sym z))))))
+        (λ f. old-rises d t i j e l (λ z. ne (l ∙ ap some (sym z))) (eqb-true _ 0 f))
+        (λ f. new-rises d t i e (leaves-for-new J sound d t j i l (omega (arith, eqb-false (at J t j .left) 0 f)) e
+        (λ z. ne (l ∙ ap some (sym z))))))

@@ -55,7 +55,7 @@ module _ (J : Job) (P : ℕ → Progress) (i : ℕ) where
 
   -- What one link into piece i says of the counts it is a part of.
   link-settled : (t : ℕ) (l : Link) → l .after ≡ i → _≡_ {A = ℕ} (when (eqb (l .after) i && not (done P (l .before))) 1 0) 0
-    → asks J P i l ≤ t → (P (l .before) .left ≡ 0) × (P (l .before) .finish + delay J l ≤ t)
+      → asks J P i l ≤ t → (P (l .before) .left ≡ 0) × (P (l .before) .finish + delay J l ≤ t)
   unfolding asks when
   link-settled t l e w r =
       let own : eqb (l .after) i ≡ true = eq-eqb (l .after) i e in
@@ -75,36 +75,37 @@ module _ (J : Job) (W : List Progress) (t i : ℕ) where
   unfolding waitsOf readyOf
   ready-waits h =
       let s : Settled J (progress W) i t (J .links) =
-          λ l m e. handed-fact J W t l (ready-before J W t i h l (link-into J i l m e)) in
-      ( settled-waits J (progress W) i t (J .links) s
-      , settled-ready J (progress W) i t (piece J i .release) (J .links) (ready-release J W t i h) s)
+      λ l m e. handed-fact J W t l (ready-before J W t i h l (link-into J i l m e)) in (
+        settled-waits J (progress W) i t (J .links) s,
+        settled-ready J (progress W) i t (piece J i .release) (J .links) (ready-release J W t i h) s,
+      )
 
   pub waits-ready : waitsOf J (progress W) i ≡ 0 → readyOf J (progress W) i ≤ t → isReady J W t i ≡ true
   unfolding waitsOf readyOf
   waits-ready w r =
       ready-intro J W t i (omega (arith, first-in J (progress W) i (piece J i .release) (J .links)))
       (λ l m. let k = into-link J i l m in
-        let f = waits-settled J (progress W) i t (piece J i .release) (J .links) w r l (k .0) (k .1) in
-        fact-handed J W t l (f .0) (f .1))
+      let f = waits-settled J (progress W) i t (piece J i .release) (J .links) w r l (k .0) (k .1) in
+      fact-handed J W t l (f .0) (f .1))
 
 -- Two states of the plan in which the same pieces are finished, at the same moments, ask the same of every piece.
 module _ (J : Job) (P Q : ℕ → Progress) (i : ℕ) where
   pub alike-waits : (ls : List Link) → ((l : Link) → Mem l ls → done P (l .before) ≡ done Q (l .before))
-    → waitsFor P i ls ≡ waitsFor Q i ls
+      → waitsFor P i ls ≡ waitsFor Q i ls
   unfolding waitsFor
   alike-waits [] h = refl
   alike-waits (l ∷ ls) h = rw (h l (here refl), alike-waits ls (λ k m. h k (there m)))
 
   asks-alike : (l : Link) → done P (l .before) ≡ done Q (l .before)
-    → (P (l .before) .left ≡ 0 → P (l .before) .finish ≡ Q (l .before) .finish) → asks J P i l ≡ asks J Q i l
+      → (P (l .before) .left ≡ 0 → P (l .before) .finish ≡ Q (l .before) .finish) → asks J P i l ≡ asks J Q i l
   unfolding asks
   asks-alike l h f = by-test (done P (l .before))
       (λ e. rw (← h, e, f (eqb-true _ 0 e)))
       (λ e. by-test (eqb (l .after) i) (λ a. rw (← h, e, a, when)) (λ a. rw (a, when)))
 
   pub alike-ready : (first : ℕ) (ls : List Link) → ((l : Link) → Mem l ls → done P (l .before) ≡ done Q (l .before))
-    → ((l : Link) → Mem l ls → P (l .before) .left ≡ 0 → P (l .before) .finish ≡ Q (l .before) .finish)
-    → readyBy J P i first ls ≡ readyBy J Q i first ls
+      → ((l : Link) → Mem l ls → P (l .before) .left ≡ 0 → P (l .before) .finish ≡ Q (l .before) .finish)
+      → readyBy J P i first ls ≡ readyBy J Q i first ls
   unfolding readyBy
   alike-ready first [] h f = refl
   alike-ready first (l ∷ ls) h f =
@@ -114,25 +115,25 @@ module _ (J : Job) (P Q : ℕ → Progress) (i : ℕ) where
 module _ (J : Job) (P Q : ℕ → Progress) (p c : ℕ) (was : done P p ≡ false) (is : Q p .left ≡ 0) (at : Q p .finish ≡ c)
     (others : (j : ℕ) → (j ≡ p → ⊥) → P j ≡ Q j) (i : ℕ) where
   one-waits : (l : Link) → when (eqb (l .after) i && not (done P (l .before))) 1 0
-    ≡ when (eqb (l .after) i && not (done Q (l .before))) 1 0 + when (eqb (l .before) p && eqb (l .after) i) 1 0
+      ≡ when (eqb (l .after) i && not (done Q (l .before))) 1 0 + when (eqb (l .before) p && eqb (l .after) i) 1 0
   unfolding when
   one-waits l = by-test (eqb (l .before) p)
       (λ b. let e : l .before ≡ p = eqb-true _ p b in
-        by-test (eqb (l .after) i)
-        (λ a. rw (b, a, e, was, eq-eqb _ 0 is, when))
-        (λ a. rw (b, a, when)))
+      by-test (eqb (l .after) i)
+      (λ a. rw (b, a, e, was, eq-eqb _ 0 is, when))
+      (λ a. rw (b, a, when)))
       (λ b. let e : P (l .before) ≡ Q (l .before) = others (l .before) (eqb-false _ p b) in
-        rw (b, e, when) (omega arith))
+      rw (b, e, when) (omega arith))
 
   one-asks : (l : Link) → asks J Q i l ≡ max (asks J P i l) (when (eqb (l .before) p && eqb (l .after) i) (c + delay J l) 0)
   unfolding asks when
   one-asks l = by-test (eqb (l .before) p)
       (λ b. let e : l .before ≡ p = eqb-true _ p b in
-        by-test (eqb (l .after) i)
-        (λ a. rw (b, a, e, was, eq-eqb _ 0 is, at, when) (omega arith))
-        (λ a. rw (b, a, when)))
+      by-test (eqb (l .after) i)
+      (λ a. rw (b, a, e, was, eq-eqb _ 0 is, at, when) (omega arith))
+      (λ a. rw (b, a, when)))
       (λ b. let e : P (l .before) ≡ Q (l .before) = others (l .before) (eqb-false _ p b) in
-        rw (b, e, when) (omega arith))
+      rw (b, e, when) (omega arith))
 
   pub finished-waits : (ls : List Link) → waitsFor P i ls ≡ waitsFor Q i ls + linksTo p i ls
   unfolding waitsFor linksTo
@@ -141,7 +142,7 @@ module _ (J : Job) (P Q : ℕ → Progress) (p c : ℕ) (was : done P p ≡ fals
       let ih : waitsFor P i ls ≡ waitsFor Q i ls + linksTo p i ls = finished-waits ls in omega (arith, one-waits l)
 
   pub finished-ready : (first : ℕ) (ls : List Link)
-    → readyBy J Q i first ls ≡ max (readyBy J P i first ls) (askedBy J p c i ls)
+      → readyBy J Q i first ls ≡ max (readyBy J P i first ls) (askedBy J p c i ls)
   unfolding readyBy askedBy
   finished-ready first [] = omega arith
   finished-ready first (l ∷ ls) =
@@ -158,7 +159,7 @@ module _ (J : Job) (P : ℕ → Progress) (i : ℕ) where
       (by-test (eqb (l .after) i) (λ a. rw a) (λ a. rw a))
 
   pub fresh-ready : (first : ℕ) (ls : List Link) → ((l : Link) → Mem l ls → done P (l .before) ≡ false)
-    → readyBy J P i first ls ≡ first
+      → readyBy J P i first ls ≡ first
   unfolding readyBy asks
   fresh-ready first [] h = refl
   fresh-ready first (l ∷ ls) h =

@@ -29,14 +29,14 @@ module _ (J : Job) where
     record Far (j : ℕ) : Type 0 where
       idle : (i : ℕ) → i < pieceCount J → (worked J (desk J i) t ≡ some i → ⊥) → at J (t + j) i ≡ at J t i
       busy : (i : ℕ) → i < pieceCount J → worked J (desk J i) t ≡ some i → 0 < j
-        → at J (t + j) i ≡ workedFor (duration J i) t j (at J t i)
+          → at J (t + j) i ≡ workedFor (duration J i) t j (at J t i)
 
     none-done : (j : ℕ) → j < k → Far j → (i : ℕ) → i < pieceCount J → done (at J t) i ≡ done (at J (t + j)) i
     none-done zero l f i h = let z : t + 0 ≡ t = omega arith in rw z
     none-done (suc j) l f i h = by-work J t i
         (λ e. let b : k ≤ at J t i .left = s .works i h e in
-          let g : at J (t + suc j) i .left ≡ at J t i .left - suc j = ap (λ q. q .left) (f .busy i h e (omega arith)) in
-          left-undone (at J t) i (omega arith) ∙ sym (left-undone (at J (t + suc j)) i (omega arith)))
+        let g : at J (t + suc j) i .left ≡ at J t i .left - suc j = ap (λ q. q .left) (f .busy i h e (omega arith)) in
+        left-undone (at J t) i (omega arith) ∙ sym (left-undone (at J (t + suc j)) i (omega arith)))
         (λ e. rw (f .idle i h e))
 
     module _ (j : ℕ) (l : j < k) (f : Far j) where
@@ -82,32 +82,32 @@ module _ (J : Job) where
             unfinished = a;
             is-ready = waits-ready J (workAt J t) t i n
                 (by-test (ltb t (readyOf J (at J t) i))
-                  (λ e. absurd (omega (arith, r .1, ready-same i, s .quiet i (w .inside) a n (ltb-true _ _ e))))
-                  (λ e. ltb-false _ _ e));
+                (λ e. absurd (omega (arith, r .1, ready-same i, s .quiet i (w .inside) a n (ltb-true _ _ e))))
+                (λ e. ltb-false _ _ e));
           }
 
       same-choice : (d : ℕ) → worked J d (t + j) ≡ worked J d t
       unfolding worked
       same-choice d = by-choice (choice J (workAt J t) d t)
           (λ e. resting-choice J (workAt J (t + j)) d (t + j)
-            (λ i w. choice-none J (workAt J t) d t (always-open J d t) e i (waits-before d i w)) ∙ sym e)
+          (λ i w. choice-none J (workAt J t) d t (always-open J d t) e i (waits-before d i w)) ∙ sym e)
           (λ i e. let c = choice-some J (workAt J t) d t i e in
-            chosen-choice J (workAt J (t + j)) d (t + j) i
-            (record {
-              opened = always-open J d (t + j);
-              waits = waits-still d i (c .waits);
-              first = λ x w ne. c .first x (waits-before d x w) ne;
-            }) ∙ sym e)
+          chosen-choice J (workAt J (t + j)) d (t + j) i
+          (record {
+            opened = always-open J d (t + j);
+            waits = waits-still d i (c .waits);
+            first = λ x w ne. c .first x (waits-before d x w) ne;
+          }) ∙ sym e)
 
     one-more : (j i : ℕ) → j < k → i < pieceCount J → Far j → worked J (desk J i) t ≡ some i
-      → workedOn (duration J i) (t + j) (at J (t + j) i) ≡ workedFor (duration J i) t (suc j) (at J t i)
+        → workedOn (duration J i) (t + j) (at J (t + j) i) ≡ workedFor (duration J i) t (suc j) (at J t i)
     unfolding workedOn
     one-more zero i l h f e = let z : t + 0 ≡ t = omega arith in rw z
     one-more (suc j) i l h f e =
         let b : k ≤ at J t i .left = s .works i h e in
         let m : at J t i .left ≤ duration J i = left-whole J t i h in
         let ne : eqb (at J t i .left - suc j) (duration J i) ≡ false =
-            ne-eqb _ _ (λ (z : at J t i .left - suc j ≡ duration J i). omega arith) in
+        ne-eqb _ _ (λ (z : at J t i .left - suc j ≡ duration J i). omega arith) in
         let a : at J t i .left - suc j - 1 ≡ at J t i .left - suc (suc j) = omega arith in
         let c : t + suc j + 1 ≡ t + suc (suc j) = omega arith in
         rw (f .busy i h e (omega arith), ne, a, c)
@@ -136,7 +136,7 @@ module _ (J : Job) where
     not-worked = far k (omega arith) .idle
 
     pub worked-through : 0 < k → (i : ℕ) → i < pieceCount J → worked J (desk J i) t ≡ some i
-      → at J (t + k) i ≡ workedFor (duration J i) t k (at J t i)
+        → at J (t + k) i ≡ workedFor (duration J i) t k (at J t i)
     worked-through p i h e = far k (omega arith) .busy i h e p
 
     -- What is unfinished at its beginning is so until its last slot.

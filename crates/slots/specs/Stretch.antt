@@ -17,7 +17,7 @@ at J t = progress (workAt J t)
 pub record Stretch (J : Job) (t k : ℕ) : Type 0 where
   pub works : (i : ℕ) → i < pieceCount J → worked J (desk J i) t ≡ some i → k ≤ at J t i .left
   pub quiet : (i : ℕ) → i < pieceCount J → 0 < at J t i .left → waitsOf J (at J t) i ≡ 0
-    → t < readyOf J (at J t) i → t + k ≤ readyOf J (at J t) i
+      → t < readyOf J (at J t) i → t + k ≤ readyOf J (at J t) i
 
 -- A piece worked on in k slots from moment t on, its duration `whole`.
 abbrev pub workedFor : ℕ → ℕ → ℕ → Progress → Progress

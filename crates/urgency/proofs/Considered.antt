@@ -1,6 +1,6 @@
 -- One piece looked at, by the ways the code takes: it is finished, it waits for a piece, it is to be ready later, or it is
 -- ready and is put up for its desk.
-use Prim.Native.Nat.{ℕ, _+_, _≤_, _<_, min}
+use Prim.Native.Nat.{ℕ, _+_, _-_, _≤_, _<_, min}
 use mathlib.Core.List.{List}
 use mathlib.Core.Path.{_≡_, refl, sym}
 use native.Mathlib.Omega.{arith}
@@ -9,7 +9,7 @@ use lib.Dec.{ltb}
 use lib.ListN.{getD}
 use Rattle.rules.specs.Words.{when}
 use Rattle.laws.proofs.Words.{by-test}
-use Rattle.urgency.specs.Choice.{View, offered, isDue, consideredBy, momentWith, endWith}
+use Rattle.steps.specs.Choice.{View, offered, isDue, consideredBy, momentWith, endWith}
 
 module _ (v : View) (i : ℕ) (C : List ℕ) (next : ℕ) where
   -- What becomes of the choice and of the next moment.
@@ -27,7 +27,7 @@ module _ (v : View) (i : ℕ) (C : List ℕ) (next : ℕ) where
       by-test (ltb 0 (getD (v .left) i 0)) (λ a. (rw (a, e), rw (a, e))) (λ a. (rw a, rw a))
 
   pub ready-later : (getD (v .left) i 0 ≡ 0 → ⊥) → getD (v .waits) i 0 ≤ 0 → v .moment < getD (v .ready) i 0
-    → Becomes C (min next (getD (v .ready) i 0))
+      → Becomes C (min next (getD (v .ready) i 0))
   unfolding consideredBy momentWith isDue when
   ready-later h k l =
       let a = lt-ltb 0 (getD (v .left) i 0) (omega arith) in
@@ -35,17 +35,23 @@ module _ (v : View) (i : ℕ) (C : List ℕ) (next : ℕ) where
       (rw (a, b, lt-leb (getD (v .ready) i 0) (v .moment) l), rw (a, b, lt-ltb (v .moment) (getD (v .ready) i 0) l))
 
   pub ready-now : (getD (v .left) i 0 ≡ 0 → ⊥) → getD (v .waits) i 0 ≤ 0 → getD (v .ready) i 0 ≤ v .moment
-    → Becomes (offered (v .latests) i (getD (v .desks) i 0) C) next
+      → Becomes (offered (v .latests) i (getD (v .desks) i 0) C) next
   unfolding consideredBy momentWith isDue when
   ready-now h k l =
       let a = lt-ltb 0 (getD (v .left) i 0) (omega arith) in
       let b = eq-eqb (getD (v .waits) i 0) 0 (omega arith) in
       (rw (a, b, le-leb (getD (v .ready) i 0) (v .moment) l), rw (a, b, le-ltb (v .moment) (getD (v .ready) i 0) l))
 
-pub end-counts : (t : ℕ) (left : List ℕ) (x next : ℕ) → x < 256 → min next (t + getD left x 0) ≡ endWith t left x next
-unfolding endWith when
-end-counts t left x next h = rw (lt-ltb x 256 h)
-
-pub nobody-ends : (t : ℕ) (left : List ℕ) (x next : ℕ) → 256 ≤ x → next ≡ endWith t left x next
+-- The end of a chosen piece, by the ways the code takes: there is none, it comes first, or it does not.
+pub nobody-ends : (t : ℕ) (left : List ℕ) (x next : ℕ) → 255 < x → next ≡ endWith t left x next
 unfolding endWith when
 nobody-ends t left x next h = rw (le-ltb x 256 h)
+
+pub ends-first : (t : ℕ) (left : List ℕ) (x next k : ℕ) → x ≤ 255 → k ≡ next - t → getD left x 0 < k
+  → t + getD left x 0 ≡ endWith t left x next
+unfolding endWith when
+ends-first t left x next k h e l = rw (lt-ltb x 256 (omega arith)) (omega arith)
+
+pub ends-later : (t : ℕ) (left : List ℕ) (x next k : ℕ) → x ≤ 255 → k ≡ next - t → k ≤ getD left x 0 → next ≡ endWith t left x next
+unfolding endWith when
+ends-later t left x next k h e l = rw (lt-ltb x 256 (omega arith)) (omega arith)

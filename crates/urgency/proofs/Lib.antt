@@ -3,5 +3,7 @@ pub mod Turns
 pub mod Considered
 pub mod Worked
 pub mod Noted
-pub mod Chains
+pub mod Counted
 pub mod Passed
+pub mod Filled
+pub mod Planned

@@ -9,7 +9,7 @@ use borrow.Author.Tests.{lt-ltb, le-ltb, eq-eqb, ne-eqb, ltb-true}
 use lib.Dec.{ltb, eqb}
 use lib.ListN.{getD, set}
 use Rattle.laws.proofs.Words.{when-true, when-false, and-true}
-use Rattle.urgency.specs.Log.{Log, log, stays, lengthened, begun, noteOn, noteTo}
+use Rattle.steps.specs.Log.{Log, log, stays, lengthened, begun, noteOn, noteTo}
 
 -- Whether the run at place k goes on.
 module _ (piece until : List ℕ) (k i t : ℕ) where
@@ -35,24 +35,24 @@ module _ (t next d i : ℕ) (l : Log) where
   nobody-noted h = sym (when-false _ _ _ (le-ltb i 256 h))
 
   pub run-longer : i ≤ 255 → stays (l .piece) (l .until) (getD (l .last) d 0) i t ≡ true
-    → lengthened t next (getD (l .last) d 0) l ≡ noteOn t next d i l
+      → lengthened t next (getD (l .last) d 0) l ≡ noteOn t next d i l
   unfolding noteOn
   run-longer h e = sym (when-true _ _ _ (lt-ltb i 256 (omega arith)) ∙ when-true _ _ _ e)
 
   pub log-full : i ≤ 255 → stays (l .piece) (l .until) (getD (l .last) d 0) i t ≡ false → 511 < l .runs
-    → l ≡ noteOn t next d i l
+      → l ≡ noteOn t next d i l
   unfolding noteOn
   log-full h e k =
       sym (when-true _ _ _ (lt-ltb i 256 (omega arith)) ∙ when-false _ _ _ e ∙ when-false _ _ _ (le-ltb (l .runs) 512 k))
 
   pub run-begins : i ≤ 255 → stays (l .piece) (l .until) (getD (l .last) d 0) i t ≡ false → l .runs ≤ 511
-    → begun t next d i l ≡ noteOn t next d i l
+      → begun t next d i l ≡ noteOn t next d i l
   unfolding noteOn
   run-begins h e k =
       sym (when-true _ _ _ (lt-ltb i 256 (omega arith)) ∙ when-false _ _ _ e
       ∙ when-true _ _ _ (lt-ltb (l .runs) 512 (omega arith)))
 
 pub note-more : (t next : ℕ) (chosen : List ℕ) (d : ℕ) (l : Log)
-  → noteTo t next chosen (d + 1) l ≡ noteOn t next d (getD chosen d 0) (noteTo t next chosen d l)
+    → noteTo t next chosen (d + 1) l ≡ noteOn t next d (getD chosen d 0) (noteTo t next chosen d l)
 unfolding noteTo
 note-more t next chosen d l = rw (add-one d)

@@ -1,8 +1,10 @@
 // Who every desk works on from a moment on, and until when nothing is decided anew.
+use crate::work;
+
 ghost use mathlib.Core.Path.{_≡_};
-ghost use Prim.Native.Nat.{ℕ, _+_, _^_, _<_, _≤_, min};
-ghost use lib.ListN.{getD, replicate};
-ghost use Rattle.urgency.specs.Choice.{view, goesFirst, offered, consideredBy, momentWith, chosenFrom, readyNext, endWith, endNext, choiceOf, nextOf};
+ghost use Prim.Native.Nat.{ℕ, _<_, _≤_, min};
+ghost use lib.ListN.{getD};
+ghost use Rattle.steps.specs.Choice.{view, goesFirst, offered, consideredBy, momentWith, chosenFrom, readyNext, endWith, endNext, choiceOf, nextOf};
 
 // The earlier of two moments.
 fn earlier(a: u32, b: u32) -> u32
@@ -88,18 +90,19 @@ fn choose(
 
 // The earlier of a moment and the moment at which piece i would be finished.
 fn earlier_end(t: u32, next: u32, i: usize, left: &[u32; 256]) -> u32
-    requires { ⌜ t + getD (now left) i 0 < 2 ^ 32 ⌝ }
     ensures { λ r. ⌜ r ≡ endWith t (now (left .entry)) i next ⌝ }
 {
-    if i < 256 {
-        return earlier(next, t + left[i]);
+    if 255 < i {
+        return next;
+    }
+    if left[i] < work::less(next, t) {
+        return t + left[i];
     }
     next
 }
 
 // The earliest of a moment and of the moments at which the chosen pieces would be finished.
 fn first_end(t: u32, next: u32, left: &[u32; 256], chosen: &[usize; 32]) -> u32
-    requires { ⌜ ((i : ℕ) → t + getD (now left) i 0 < 2 ^ 32) ⌝ }
     ensures { λ r. ⌜ r ≡ endNext t (now (left .entry)) (now (chosen .entry)) 32 next ⌝ }
 {
     let mut least = next;
@@ -123,7 +126,6 @@ pub fn decide(
     chosen: &mut [usize; 32],
 ) -> u32
     requires { ⌜ (n ≤ 256) × ((i : ℕ) → i < n → getD (now desks) i 0 < 32) ⌝ }
-    requires { ⌜ ((i : ℕ) → t + getD (now left) i 0 < 2 ^ 32) ⌝ }
     ensures { λ r. ⌜ (now (chosen .exit) ≡ choiceOf (view t (now (desks .entry)) (now (latests .entry)) (now (left .entry)) (now (waits .entry)) (now (ready .entry))) n)
         × (r ≡ nextOf (view t (now (desks .entry)) (now (latests .entry)) (now (left .entry)) (now (waits .entry)) (now (ready .entry))) n) ⌝ }
 {

@@ -1,6 +1,86 @@
 // The plan by urgency, by decision moments: from one moment at which some piece becomes ready or is finished to the next,
 // never slot by slot. The pieces and links come in lent tables, and so do start, finish and the log of the runs.
 mod choice;
-mod links;
+mod handover;
 mod log;
 mod work;
+
+ghost use mathlib.Core.Path.{_≡_};
+ghost use Prim.Native.Nat.{_≤_};
+ghost use lib.ListN.{length};
+ghost use Rattle.rules.specs.Tables.{jobIn};
+ghost use Rattle.urgency.specs.Plan.{Given, Sized, Planned, Begun};
+
+// Fills the tables of the pieces as they are before the first slot.
+fn begin(
+    n: usize,
+    durations: &[u16; 256],
+    releases: &[u32; 256],
+    left: &mut [u32; 256],
+    ready: &mut [u32; 256],
+    start: &mut [u32; 256],
+    finish: &mut [u32; 256],
+)
+    requires { ⌜ n ≤ 256 ⌝ }
+    requires { ⌜ (length (now left) ≡ 256) × (length (now ready) ≡ 256) × (length (now start) ≡ 256) × (length (now finish) ≡ 256) ⌝ }
+    ensures { λ _. ⌜ Begun n (now (durations .entry)) (now (releases .entry)) (now (left .exit)) (now (ready .exit))
+        (now (start .exit)) (now (finish .exit)) ⌝ }
+{
+    let mut i = 0;
+    while i < n {
+        left[i] = work::wide(durations[i]);
+        ready[i] = releases[i];
+        start[i] = 0;
+        finish[i] = 0;
+        i += 1;
+    }
+}
+
+// The plan of n pieces and m links. It fills start and finish of every piece and the log of the runs, in the order in which
+// they begin, and returns the count of the runs.
+pub fn plan(
+    n: usize,
+    m: usize,
+    desks: &[u8; 256],
+    durations: &[u16; 256],
+    releases: &[u32; 256],
+    dues: &[u32; 256],
+    befores: &[u16; 1024],
+    afters: &[u16; 1024],
+    handovers: &[u16; 1024],
+    latests: &[i32; 256],
+    start: &mut [u32; 256],
+    finish: &mut [u32; 256],
+    piece: &mut [u16; 512],
+    from: &mut [u32; 512],
+    until: &mut [u32; 512],
+) -> usize
+    requires { ⌜ Given (jobIn n m (now desks) (now durations) (now releases) (now dues) (now befores) (now afters) (now handovers))
+        n (now latests) ⌝ }
+    requires { ⌜ Sized (now start) (now finish) (now piece) (now from) (now until) ⌝ }
+    ensures { λ r. ⌜ Planned (jobIn n m (now (desks .entry)) (now (durations .entry)) (now (releases .entry)) (now (dues .entry))
+        (now (befores .entry)) (now (afters .entry)) (now (handovers .entry))) n (now (desks .entry))
+        (now (start .exit)) (now (finish .exit)) (now (piece .exit)) (now (from .exit)) (now (until .exit)) r ⌝ }
+{
+    let mut left = [0u32; 256];
+    let mut waits = [0u32; 256];
+    let mut ready = [0u32; 256];
+    let mut tail = [0u16; 256];
+    let mut prior = [0u16; 1024];
+    let mut chosen = [256usize; 32];
+    let mut last = [512usize; 32];
+    begin(n, durations, releases, &mut left, &mut ready, start, finish);
+    handover::count(m, afters, &mut waits);
+    links::chains::chain_links(befores, m, &mut tail, &mut prior);
+    let mut runs = 0;
+    let mut t = 0;
+    let mut next = choice::decide(n, t, desks, latests, &left, &waits, &ready, &mut chosen);
+    while next < 4294967295 {
+        work::work_all(t, next, durations, &chosen, &mut left, start, finish);
+        runs = log::note_all(t, next, runs, &chosen, &mut last, piece, from, until);
+        handover::hand_all(m, next, desks, befores, afters, handovers, &tail, &prior, &chosen, &left, &mut waits, &mut ready);
+        t = next;
+        next = choice::decide(n, t, desks, latests, &left, &waits, &ready, &mut chosen);
+    }
+    runs
+}

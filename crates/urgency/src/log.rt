@@ -2,7 +2,7 @@
 // desk has none.
 ghost use mathlib.Core.Path.{_≡_};
 ghost use Prim.Native.Nat.{_<_};
-ghost use Rattle.urgency.specs.Log.{log, stays, noteOn, noteTo};
+ghost use Rattle.steps.specs.Log.{log, stays, noteOn, noteTo};
 
 // A piece's number out of the log.
 fn number(x: u16) -> usize

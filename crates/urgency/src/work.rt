@@ -3,7 +3,7 @@ ghost use mathlib.Core.Path.{_≡_};
 ghost use Prim.Native.Nat.{_-_, _<_};
 ghost use lib.Dec.{eqb};
 ghost use Rattle.rules.specs.Words.{when};
-ghost use Rattle.urgency.specs.Work.{work, workOn, workTo};
+ghost use Rattle.steps.specs.Work.{work, workOn, workTo};
 
 // A number of two bytes as one of four.
 pub fn wide(x: u16) -> u32
@@ -13,7 +13,7 @@ pub fn wide(x: u16) -> u32
 }
 
 // What is left of a when b is taken off; nothing where b is more.
-fn less(a: u32, b: u32) -> u32
+pub fn less(a: u32, b: u32) -> u32
     ensures { λ r. ⌜ r ≡ a - b ⌝ }
 {
     if a < b { 0 } else { a - b }

@@ -23,7 +23,11 @@ loop-holds c =
     (omega arith, no-desk-yet (a .count) (a .desks .now) (a .pieces .now) (a .froms .now) (a .untils .now) (a .buffer .now) (a .at))
 
 put-desk-runs-requires : tie.Need-put-desk-runs-requires Inv-loop μ-loop
-put-desk-runs-requires c κs = ?
+put-desk-runs-requires c κs =
+    let a = c .before .before .before .before .args in
+    let L = c .before .before .loop in
+    let p = c .before .before .before .before .pre in
+    (p .0, omega (arith, desk-room (a .count) (a .desks .now) (a .pieces .now) (a .froms .now) (a .untils .now) (L .desk) 32 (omega arith), L .inv .1 .past, L .inv .1 .same, p .1))
 
 add-desk : tie.Need-add-desk Inv-loop μ-loop
 add-desk c = omega arith
@@ -32,13 +36,20 @@ loop-less : tie.Need-loop-less Inv-loop μ-loop
 loop-less c = omega arith
 
 loop-again : tie.Need-loop-again Inv-loop μ-loop
-loop-again c = ?
+loop-again c =
+    let a = c .before .before .before .before .before .before .before .args in
+    let L = c .before .before .before .before .before .loop in (
+      omega arith,
+      one-desk-more (a .count) (a .desks .now) (a .pieces .now) (a .froms .now) (a .untils .now) (a .buffer .now) (a .at) (L .desk) (L .buffer) (L .next) _ _ (L .inv .1)
+          (c .before .before .put-desk-runs .ensures),
+    )
 
 same-length : tie.Need-same-length Inv-loop μ-loop
-same-length c = ?
+same-length c = c .before .loop .inv .1 .same
 
 returns : tie.Need-returns Inv-loop μ-loop
-returns c = ?
+returns c =
+    let q : c .before .loop .desk ≡ 32 = omega arith in rw (← q) (c .before .loop .inv .1 .bytes)
 
 pub put-runs-spec : {M : Type 1} → statement M
 put-runs-spec =

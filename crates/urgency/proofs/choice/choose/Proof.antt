@@ -1,7 +1,7 @@
 use Prim.Native.Nat.{_≤_, _-_}
 use mathlib.Core.Path.{_≡_, refl, sym, ap, _∙_}
 use native.Mathlib.Omega.{arith}
-use Rattle.urgency.specs.Choice.{view, chosenFrom, readyNext, consideredBy, momentWith}
+use Rattle.steps.specs.Choice.{view, chosenFrom, readyNext, consideredBy, momentWith}
 use Rattle.urgency.proofs.Turns.{chosen-more, ready-more}
 use borrow.Author.Needs.{needs}
 use Rattle.urgency.proofs.choice.choose.Statement.{statement}
@@ -35,10 +35,11 @@ loop-again : tie.Need-loop-again Inv-loop μ-loop
 loop-again c =
     let a = c .before .before .before .before .args in
     let v = view (a .t) (a .desks .now) (a .latests .now) (a .left .now) (a .waits .now) (a .ready .now) in
-    let l = c .before .before .before .loop in
-    ( omega arith
-    , c .consider .ensures .0 ∙ ap (consideredBy v (l .i)) (l .inv .1) ∙ sym (chosen-more v (l .i) _)
-    , c .consider .ensures .1 ∙ ap (momentWith v (l .i)) (l .inv .2) ∙ sym (ready-more v (l .i) _))
+    let l = c .before .before .before .loop in (
+      omega arith,
+      c .consider .ensures .0 ∙ ap (consideredBy v (l .i)) (l .inv .1) ∙ sym (chosen-more v (l .i) _),
+      c .consider .ensures .1 ∙ ap (momentWith v (l .i)) (l .inv .2) ∙ sym (ready-more v (l .i) _),
+    )
 
 returns : tie.Need-returns Inv-loop μ-loop
 returns c =

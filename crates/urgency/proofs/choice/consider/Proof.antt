@@ -1,5 +1,5 @@
 use mathlib.Core.Path.{_∙_}
-use Rattle.urgency.specs.Choice.{view}
+use Rattle.steps.specs.Choice.{view}
 use Rattle.urgency.proofs.Considered.{is-finished, waits-yet, ready-later, ready-now}
 use borrow.Author.Needs.{needs}
 use Rattle.urgency.proofs.choice.consider.Statement.{statement}
@@ -53,7 +53,7 @@ returns-3 c =
     let a = c .before .before .before .before .before .before .before .before .args in
     let v = view (a .t) (a .desks .now) (a .latests .now) (a .left .now) (a .waits .now) (a .ready .now) in
     let w = ready-later v (a .i) (a .chosen .now) (a .next) (c .before .before .before .before .before .before .if1 .left)
-        (c .before .before .before .before .if2 .left) (c .before .before .if3 .taken) in
+    (c .before .before .before .before .if2 .left) (c .before .before .if3 .taken) in
     (w .0, c .earlier .ensures ∙ w .1)
 
 element-copy-out-offer : tie.Need-element-copy-out-offer
@@ -70,7 +70,7 @@ returns-4 c =
     let a = c .before .before .before .before .before .before .before .before .before .args in
     let v = view (a .t) (a .desks .now) (a .latests .now) (a .left .now) (a .waits .now) (a .ready .now) in
     let w = ready-now v (a .i) (a .chosen .now) (a .next) (c .before .before .before .before .before .before .before .if1 .left)
-        (c .before .before .before .before .before .if2 .left) (c .before .before .before .if3 .left) in
+    (c .before .before .before .before .before .if2 .left) (c .before .before .before .if3 .left) in
     (c .offer .ensures ∙ w .0, w .1)
 
 pub consider-spec : {M : Type 1} → statement M

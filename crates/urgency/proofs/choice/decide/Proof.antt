@@ -1,4 +1,4 @@
-use Rattle.urgency.specs.Choice.{view}
+use Rattle.steps.specs.Choice.{view}
 use Rattle.urgency.proofs.Turns.{decided}
 use borrow.Author.Needs.{needs}
 use Rattle.urgency.proofs.choice.decide.Statement.{statement}

@@ -1,31 +1,54 @@
-use mathlib.Core.Path.{_∙_}
-use Rattle.urgency.proofs.Considered.{end-counts, nobody-ends}
+use Rattle.urgency.proofs.Considered.{nobody-ends, ends-first, ends-later}
 use borrow.Author.Needs.{needs}
 use Rattle.urgency.proofs.choice.earlier_end.Statement.{statement}
 use Rattle.urgency.proofs.choice.earlier_end.Tie as tie
 use Rattle.urgency.proofs.choice.earlier_end.Reads as reads
 use Rattle.urgency.proofs.choice.earlier_end.Lts as lts
-use Rattle.urgency.proofs.choice.earlier.Reads as earlier-reads
-
-mul-earlier : tie.Need-mul-earlier
-mul-earlier c = search needs
-
-element-copy-out-earlier : tie.Need-element-copy-out-earlier
-element-copy-out-earlier c = search needs
-
-add-earlier : tie.Need-add-earlier
-add-earlier c = search needs
-
-earlier-requires : tie.Need-earlier-requires
-earlier-requires c κs = search needs
+use Rattle.urgency.proofs.work.less.Reads as less-reads
 
 returns : tie.Need-returns
-returns c = c .earlier .ensures ∙ end-counts _ _ _ _ (c .before .before .if1 .taken)
+returns c = nobody-ends _ _ _ _ (c .if1 .taken)
+
+mul-if2 : tie.Need-mul-if2
+mul-if2 c = search needs
+
+element-copy-out-if2 : tie.Need-element-copy-out-if2
+element-copy-out-if2 c = search needs
+
+less-requires : tie.Need-less-requires
+less-requires c κs = search needs
+
+mul-result : tie.Need-mul-result
+mul-result c = search needs
+
+element-copy-out-result : tie.Need-element-copy-out-result
+element-copy-out-result c = search needs
+
+add-result : tie.Need-add-result
+add-result c = search needs
 
 returns-2 : tie.Need-returns-2
-returns-2 c = nobody-ends _ _ _ _ (c .if1 .left)
+returns-2 c =
+    let a = c .before .before .before .before .before .args in
+    ends-first (a .t) (a .left .now) (a .i) (a .next) (c .before .before .less .result) (c .before .before .before .before .if1 .left) (c .before .before .less .ensures)
+    (c .before .if2 .taken)
+
+returns-3 : tie.Need-returns-3
+returns-3 c =
+    let a = c .before .before .before .before .args in
+    ends-later (a .t) (a .left .now) (a .i) (a .next) (c .before .less .result) (c .before .before .before .if1 .left) (c .before .less .ensures)
+    (c .if2 .left)
 
 pub earlier-end-spec : {M : Type 1} → statement M
 earlier-end-spec =
     tie.close
-    (tie.spec mul-earlier element-copy-out-earlier add-earlier earlier-requires returns returns-2)
+    (tie.spec
+    returns
+    mul-if2
+    element-copy-out-if2
+    less-requires
+    mul-result
+    element-copy-out-result
+    add-result
+    returns-2
+    returns-3)

@@ -1,7 +1,7 @@
 use Prim.Native.Nat.{_≤_, _-_}
 use mathlib.Core.Path.{_≡_, refl, sym, ap, _∙_}
 use native.Mathlib.Omega.{arith}
-use Rattle.urgency.specs.Choice.{endWith, endNext}
+use Rattle.steps.specs.Choice.{endWith, endNext}
 use Rattle.urgency.proofs.Turns.{end-more}
 use borrow.Author.Needs.{needs}
 use Rattle.urgency.proofs.choice.first_end.Statement.{statement}
@@ -27,7 +27,7 @@ element-copy-out-earlier-end : tie.Need-element-copy-out-earlier-end Inv-loop μ
 element-copy-out-earlier-end c = search needs
 
 earlier-end-requires : tie.Need-earlier-end-requires Inv-loop μ-loop
-earlier-end-requires c κs = c .before .before .before .pre _
+earlier-end-requires c κs = tt
 
 add-d : tie.Need-add-d Inv-loop μ-loop
 add-d c = search needs
@@ -37,10 +37,11 @@ loop-less c = search needs
 
 loop-again : tie.Need-loop-again Inv-loop μ-loop
 loop-again c =
-    let a = c .before .before .before .before .args in
-    ( omega arith
-    , c .earlier-end .ensures ∙ ap (endWith (a .t) (a .left .now) _) (c .before .before .before .loop .inv .1)
-      ∙ sym (end-more (a .t) (a .left .now) (a .chosen .now) _ (a .next)))
+    let a = c .before .before .before .before .args in (
+      omega arith,
+      c .earlier-end .ensures ∙ ap (endWith (a .t) (a .left .now) _) (c .before .before .before .loop .inv .1)
+          ∙ sym (end-more (a .t) (a .left .now) (a .chosen .now) _ (a .next)),
+    )
 
 returns : tie.Need-returns Inv-loop μ-loop
 returns c = let e : c .before .loop .d ≡ 32 = omega arith in rw e at (c .before .loop .inv .1)

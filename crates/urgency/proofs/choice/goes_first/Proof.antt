@@ -4,7 +4,7 @@ use lib.IntN.{pos}
 use lib.ListN.{getD}
 use mir.Syntax.{w32}
 use mir.ValLaws.{toZ-ofZ}
-use Rattle.urgency.specs.Choice.{goesFirst}
+use Rattle.steps.specs.Choice.{goesFirst}
 use Rattle.urgency.proofs.choice.goes_first.Statement.{statement}
 use Rattle.urgency.proofs.choice.goes_first.Tie as tie
 use Rattle.urgency.proofs.choice.goes_first.Reads as reads
@@ -31,9 +31,11 @@ returns : tie.Need-returns
 unfolding goesFirst
 returns c =
     let a = c .before .before .before .args in
-    simp (toZ-ofZ w32 (getD (a .latests .now) (a .i) (pos 0)) (record { sfits = c .before .result .given }),
+    simp (
+      toZ-ofZ w32 (getD (a .latests .now) (a .i) (pos 0)) (record { sfits = c .before .result .given }),
       toZ-ofZ w32 (getD (a .latests .now) (a .so-far) (pos 0)) (record { sfits = c .result2 .given }),
-      lt-ltb (a .so-far) 256 (c .before .before .if1 .taken))
+      lt-ltb (a .so-far) 256 (c .before .before .if1 .taken),
+    )
 
 -- src/choice.rt:16:1
 returns-2 : tie.Need-returns-2

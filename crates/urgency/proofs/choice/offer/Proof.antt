@@ -1,7 +1,7 @@
 use borrow.Author.Needs.{needs}
 use mathlib.Core.Path.{sym, _∙_}
 use Rattle.laws.proofs.Words.{when-true, when-false}
-use Rattle.urgency.specs.Choice.{offered}
+use Rattle.steps.specs.Choice.{offered}
 use Rattle.urgency.proofs.choice.offer.Statement.{statement}
 use Rattle.urgency.proofs.choice.offer.Tie as tie
 use Rattle.urgency.proofs.choice.offer.Reads as reads

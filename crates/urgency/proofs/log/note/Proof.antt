@@ -2,7 +2,7 @@ use Prim.Native.Nat.{_<_}
 use mathlib.Core.Path.{sym, _∙_}
 use native.Mathlib.Omega.{arith}
 use lib.ListN.{getD}
-use Rattle.urgency.specs.Log.{log}
+use Rattle.steps.specs.Log.{log}
 use Rattle.urgency.proofs.Noted.{stays-inside, nobody-noted, run-longer, log-full, run-begins}
 use borrow.Author.Needs.{needs}
 use Rattle.urgency.proofs.log.note.Statement.{statement}

@@ -1,7 +1,7 @@
 use Prim.Native.Nat.{_≤_, _-_}
 use mathlib.Core.Path.{_≡_, refl, sym, ap, _∙_}
 use native.Mathlib.Omega.{arith}
-use Rattle.urgency.specs.Log.{log, noteOn, noteTo}
+use Rattle.steps.specs.Log.{log, noteOn, noteTo}
 use Rattle.urgency.proofs.Noted.{note-more}
 use borrow.Author.Needs.{needs}
 use Rattle.urgency.proofs.log.note_all.Statement.{statement}
@@ -39,10 +39,11 @@ loop-less c = omega arith
 loop-again : tie.Need-loop-again Inv-loop μ-loop
 loop-again c =
     let a = c .before .before .before .before .before .before .before .before .args in
-    let l = c .before .before .before .before .before .before .before .loop in
-    ( omega arith
-    , c .note .ensures ∙ ap (noteOn (a .t) (a .next) (l .d) _) (l .inv .1)
-      ∙ sym (note-more (a .t) (a .next) (a .chosen .now) (l .d) _))
+    let l = c .before .before .before .before .before .before .before .loop in (
+      omega arith,
+      c .note .ensures ∙ ap (noteOn (a .t) (a .next) (l .d) _) (l .inv .1)
+          ∙ sym (note-more (a .t) (a .next) (a .chosen .now) (l .d) _),
+    )
 
 returns : tie.Need-returns Inv-loop μ-loop
 returns c = let e : c .before .loop .d ≡ 32 = omega arith in rw e at (c .before .loop .inv .1)

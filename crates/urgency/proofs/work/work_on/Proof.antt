@@ -1,4 +1,4 @@
-use Rattle.urgency.specs.Work.{work}
+use Rattle.steps.specs.Work.{work}
 use Rattle.urgency.proofs.Worked.{nobody-works, works-on}
 use borrow.Author.Needs.{needs}
 use Rattle.urgency.proofs.work.work_on.Statement.{statement}

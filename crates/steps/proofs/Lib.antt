@@ -1,0 +1,15 @@
+-- That one step over the tables is the plan from one decision moment to the next, by topic.
+pub mod Tables
+pub mod Decision
+pub mod NextMoment
+pub mod Moved
+pub mod WorkStep
+pub mod LinkStep
+pub mod LogLists
+pub mod Scores
+pub mod LogHeld
+pub mod LogGoesOn
+pub mod LogBegins
+pub mod LogStep
+pub mod Begin
+pub mod Step

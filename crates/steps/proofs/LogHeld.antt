@@ -1,0 +1,90 @@
+-- A log that has the runs of every desk up to the desk's moment; and what a desk's runs are once it is moved on.
+use Prim.Native.Nat.{ℕ, zero, suc, _+_, _-_, _≤_, _<_}
+use mathlib.Core.Bool.{Bool, true, false, _&&_}
+use mathlib.Core.List.{List, [], _∷_, _++_, map}
+use mathlib.Core.Logic.{_⊎_, inl, inr}
+use mathlib.Core.Option.{Option, none, some}
+use mathlib.Core.Path.{_≡_, refl, sym, ap, _∙_}
+use native.Mathlib.Omega.{arith}
+use borrow.Author.Tests.{ltb-true, ltb-false, lt-ltb, le-ltb, eqb-true, eqb-false, eq-eqb, ne-eqb}
+use lib.Dec.{ltb, eqb}
+use lib.ListN.{length, getD, set, length-set}
+use lib.Seq.{getD-set-same, getD-set-other}
+use Rattle.rules.specs.Words.{when, below}
+use Rattle.rules.specs.Job.{Job, pieceCount, desk}
+use Rattle.rules.specs.Runs.{Run}
+use Rattle.rules.specs.Tables.{Sound}
+use Rattle.rules.specs.Urgency.{worked}
+use Rattle.laws.proofs.Slots.{by-choice, worked-chosen, none-or-some, some-inj}
+use Rattle.laws.proofs.Words.{by-test, true-or-false, and-true, when-true, when-false}
+use Rattle.slots.specs.Growth.{goesOnAt, freshRun, longer, grown, runsUntil, lastPiece, lastEnd, lastOn, score}
+use Rattle.slots.specs.Stretch.{at, Stretch}
+use Rattle.slots.proofs.Growth.{grown-on, grown-anew, goes-on, runs-resting, runs-working}
+use Rattle.slots.proofs.Last.{last-piece, last-end, under-way}
+use Rattle.slots.proofs.Score.{Rises, run-rises}
+use Rattle.slots.proofs.Stretch.{keeps-choice}
+use Rattle.steps.specs.Choice.{codeOf}
+use Rattle.steps.specs.Log.{Log, log, stays, lengthened, begun, noteOn, noteTo, runAt, loggedRuns}
+use Rattle.steps.proofs.LogLists.{ownRun, own-more, other-more, last-logged, logged-same}
+use Rattle.steps.proofs.Moved.{momentOf, moment-early, moment-late, moment-other}
+use Rattle.steps.proofs.Scores.{scores, scores-most, scores-less, scores-grow, scores-rise}
+
+-- The desk's last run in the log: there is none, or it stands at the place that the table has.
+pub record Placed (desks : List ℕ) (l : Log) (d : ℕ) : Type 0 where
+  pub below : getD (l .last) d 0 < l .runs
+  pub own : ownRun desks (l .piece) d (getD (l .last) d 0) ≡ true
+  pub latest : (j : ℕ) → getD (l .last) d 0 < j → j < l .runs → ownRun desks (l .piece) d j ≡ false
+
+abbrev pub logged : List ℕ → Log → ℕ → List Run
+logged desks l d = loggedRuns desks (l .piece) (l .from) (l .until) (l .runs) d
+
+unfoldable pub LastRun : List ℕ → Log → ℕ → Type 0
+LastRun desks l d = ((getD (l .last) d 0 ≡ 512) × (logged desks l d ≡ [])) ⊎ Placed desks l d
+
+-- The log has the runs of every desk up to the desk's moment.
+pub record LogHeld (J : Job) (n : ℕ) (desks : List ℕ) (τ : ℕ → ℕ) (l : Log) : Type 0 where
+  pub last-sized : length (l .last) ≡ 32
+  pub piece-sized : length (l .piece) ≡ 512
+  pub from-sized : length (l .from) ≡ 512
+  pub until-sized : length (l .until) ≡ 512
+  pub runs-are : (d : ℕ) → d < 32 → logged desks l d ≡ runsUntil J d (τ d)
+  pub lasts : (d : ℕ) → d < 32 → LastRun desks l d
+  pub inside : (k : ℕ) → k < l .runs → getD (l .piece) k 0 < n
+  pub forward : (k : ℕ) → k < l .runs → getD (l .from) k 0 ≤ getD (l .until) k 0
+  pub few : l .runs ≤ scores J n τ
+
+module _ (J : Job) (sound : Sound J) (n : ℕ) (desks : List ℕ) (t u k : ℕ) (e : t + k ≡ u) (p : 0 < k) (s : Stretch J t k)
+    (count : pieceCount J ≡ n) (small : n ≤ 256) (desk-is : (i : ℕ) → i < n → desk J i ≡ getD desks i 0) where
+  abbrev then-at : ℕ → ℕ → ℕ
+  then-at d = momentOf t u d
+
+  -- The runs of a desk that rests, and of one that works, once it is moved on.
+  pub rested-runs : (d : ℕ) → worked J d t ≡ none → runsUntil J d u ≡ runsUntil J d t
+  rested-runs d q = rw (← e) (runs-resting J d t k (λ j l. keeps-choice J sound t k s j l d ∙ q))
+
+  pub worked-runs : (d i : ℕ) → worked J d t ≡ some i → runsUntil J d u ≡ grown (runsUntil J d t) i t k
+  worked-runs d i q =
+      let z : t + suc (k - 1) ≡ u = omega arith in
+      let y : suc (k - 1) ≡ k = omega arith in
+      let w = runs-working J d t (k - 1) i (λ j l. keeps-choice J sound t k s j (omega arith) d ∙ q) in
+      rw (z, y) at w
+
+  -- A desk that rests leaves the log as it is.
+  pub resting-held : (d : ℕ) → worked J d t ≡ none → (l : Log) → LogHeld J n desks (then-at d) l → LogHeld J n desks (then-at (suc d)) l
+  resting-held d q l h = record {
+    last-sized = h .last-sized;
+    piece-sized = h .piece-sized;
+    from-sized = h .from-sized;
+    until-sized = h .until-sized;
+    runs-are = λ c b. h .runs-are c b ∙ moved-same c;
+    lasts = h .lasts;
+    inside = h .inside;
+    forward = h .forward;
+    few = omega (arith, h .few, scores-grow J n t u k e p count d);
+  }
+    where
+      moved-same : (c : ℕ) → runsUntil J c (then-at d c) ≡ runsUntil J c (then-at (suc d) c)
+      moved-same c = by-test (eqb c d)
+          (λ z. let y : c ≡ d = eqb-true c d z in
+          rw (moment-early t u d c (omega arith), moment-late t u (suc d) c (omega arith), y) (sym (rested-runs d q)))
+          (λ z. rw (moment-other t u d c (eqb-false c d z)))
