@@ -1,12 +1,11 @@
 -- The stretch of a desk's runs, once its first record is found or there is none.
 use Prim.Native.Nat.{ℕ, _+_, _-_, _*_, _≤_, _<_}
-use mathlib.Core.List.{List, []}
+use mathlib.Core.List.{List}
 use mathlib.Core.Path.{_≡_, refl, sym, ap, _∙_}
 use borrow.Author.Tests.{lt-ltb, le-ltb}
-use lib.ListN.{take, drop}
 use Rattle.rules.specs.Words.{when}
 use Rattle.rules.specs.File.{wholeRecords}
-use Rattle.rules.specs.DeskRuns.{firstRun, pastLastRun, stretchFrom, stretchEnd, stretch}
+use Rattle.rules.specs.DeskRuns.{firstRun, pastLastRun, stretchFrom, stretchEnd}
 use Rattle.laws.proofs.Words.{when-true, when-false}
 
 module _ (s : List ℕ) (d k : ℕ) (found : k ≡ firstRun s d) where
@@ -15,23 +14,15 @@ module _ (s : List ℕ) (d k : ℕ) (found : k ≡ firstRun s d) where
     unfolding stretchFrom when
     found-from = rw (← found) (rw (lt-ltb k (wholeRecords s) h, when))
 
-    found-end : stretchEnd s d ≡ 16 * pastLastRun s d k
+    pub found-end : stretchEnd s d ≡ 16 * pastLastRun s d k
     unfolding stretchEnd when
     found-end = rw (← found) (rw (lt-ltb k (wholeRecords s) h, when))
-
-    pub found-bytes : take (16 * pastLastRun s d k - 16 * k) (drop (16 * k) s) ≡ stretch s d
-    unfolding stretch
-    found-bytes = rw (found-end, found-from)
 
   module _ (h : wholeRecords s ≤ k) where
     pub nothing-from : stretchFrom s d ≡ 0
     unfolding stretchFrom when
     nothing-from = rw (← found) (rw (le-ltb k (wholeRecords s) h, when))
 
-    nothing-end : stretchEnd s d ≡ 0
+    pub nothing-end : stretchEnd s d ≡ 0
     unfolding stretchEnd when
     nothing-end = rw (← found) (rw (le-ltb k (wholeRecords s) h, when))
-
-    pub nothing-bytes : [] ≡ stretch s d
-    unfolding stretch
-    nothing-bytes = rw (nothing-end, nothing-from)

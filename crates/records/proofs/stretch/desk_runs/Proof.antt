@@ -1,73 +1,37 @@
--- `desk_runs` meets its contract: the part begins at the first run, or at the front where there is none.
-use borrow.Author.Needs.{needs}
+-- `desk_runs` meets its contract: the part between the two ends of the stretch.
+use mathlib.Core.Path.{_≡_, refl}
 use native.Mathlib.Omega.{arith}
-use mathlib.Core.Path.{refl}
-use Rattle.records.proofs.StretchLaws.{found-from, found-bytes, nothing-from, nothing-bytes}
+use Rattle.rules.specs.DeskRuns.{stretch}
+use borrow.Author.Needs.{needs}
 use Rattle.records.proofs.stretch.desk_runs.Statement.{statement}
 use Rattle.records.proofs.stretch.desk_runs.Tie as tie
 use Rattle.records.proofs.stretch.desk_runs.Reads as reads
 use Rattle.records.proofs.stretch.desk_runs.Lts as lts
-use Rattle.records.proofs.stretch.first_run.Reads as first-run-reads
-use Rattle.records.proofs.stretch.past_last_run.Reads as past-last-run-reads
+use Rattle.records.proofs.stretch.stretch_of.Reads as stretch-of-reads
 
-first-run-requires : tie.Need-first-run-requires
-first-run-requires c κs = search needs
-
-past-last-run-requires : tie.Need-past-last-run-requires
-past-last-run-requires c κs = search needs
-
-mul-result : tie.Need-mul-result
-mul-result c = search needs
-
-mul-result-2 : tie.Need-mul-result-2
-mul-result-2 c = omega arith
+stretch-of-requires : tie.Need-stretch-of-requires
+stretch-of-requires c κs = search needs
 
 sub-result : tie.Need-sub-result
-sub-result c = omega arith
+sub-result c = search needs
 
 part-result-start : tie.Need-part-result-start
-part-result-start c = omega arith
+part-result-start c = search needs
 
 part-result-end : tie.Need-part-result-end
-part-result-end c = omega arith
+part-result-end c = search needs
 
 returns : tie.Need-returns
+unfolding stretch
 returns c =
-    let a = c .before .before .before .before .before .args in
-    let k = c .before .before .before .first-run .result in
-    let found = c .before .before .before .first-run .ensures in
-    let past = c .before .past-last-run .ensures in
+    let a = c .before .before .before .args in
+    let b = c .before .stretch-of .ensures in
     record {
-      bytes = rw (past .is) (found-bytes (a .records .now) (a .desk) k found (omega arith));
+      bytes = rw (b .begins, b .ends);
       block = refl;
-      place = rw (found-from (a .records .now) (a .desk) k found (omega arith)) (omega arith);
-    }
-
-slice-aggregate-result : tie.Need-slice-aggregate-result
-slice-aggregate-result c = search needs
-
-returns-2 : tie.Need-returns-2
-returns-2 c =
-    let a = c .before .before .before .before .args in
-    let k = c .before .before .first-run .result in
-    let found = c .before .before .first-run .ensures in
-    record {
-      bytes = nothing-bytes (a .records .now) (a .desk) k found (omega arith);
-      block = refl;
-      place = rw (nothing-from (a .records .now) (a .desk) k found (omega arith)) (omega arith);
+      place = rw (← (b .begins)) (omega arith);
     }
 
 pub desk-runs-spec : {M : Type 1} → statement M
 desk-runs-spec =
-    tie.close
-    (tie.spec
-    first-run-requires
-    past-last-run-requires
-    mul-result
-    mul-result-2
-    sub-result
-    part-result-start
-    part-result-end
-    returns
-    slice-aggregate-result
-    returns-2)
+    tie.close (tie.spec stretch-of-requires sub-result part-result-start part-result-end returns)
