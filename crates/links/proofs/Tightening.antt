@@ -89,33 +89,34 @@ module _ (durations befores afters : List ℕ) where
         pub computed-fits : SFits w32 computed
         computed-fits = rw computed-left left-fits
 
-        written : toZ w32 (ofZ w32 computed) ≡ leftBy durations befores afters T k
-        written = toZ-ofZ w32 computed computed-fits ∙ computed-left
+        module _ (s : ℤ) (d : s ≡ computed) where
+          written : toZ w32 (ofZ w32 s) ≡ leftBy durations befores afters T k
+          written = toZ-ofZ w32 s (rw d computed-fits) ∙ d ∙ computed-left
 
-        abbrev test : Bool
-        test = ltZ (toZ w32 (ofZ w32 computed)) (toZ w32 (ofZ w32 (getD T (getD befores k 0) (pos 0))))
+          abbrev test : Bool
+          test = ltZ (toZ w32 (ofZ w32 s)) (toZ w32 (ofZ w32 (getD T (getD befores k 0) (pos 0))))
 
-        test-tighter : test ≡ tighter durations befores afters T k
-        unfolding tighter
-        test-tighter =
-            rw (written, toZ-ofZ w32 (getD T (getD befores k 0) (pos 0)) (entry-fits (getD befores k 0) (F .ties .before-one k l)))
+          test-tighter : test ≡ tighter durations befores afters T k
+          unfolding tighter
+          test-tighter =
+              rw (written, toZ-ofZ w32 (getD T (getD befores k 0) (pos 0)) (entry-fits (getD befores k 0) (F .ties .before-one k l)))
 
-        pub taken : test ≡ true
-            → (true ≡ tighter durations befores afters T k)
-            × (set T (getD befores k 0) (toZ w32 (ofZ w32 computed)) ≡ tightenedAt durations befores afters T k)
-        unfolding tightenedAt tighter lesserZ
-        taken t =
-            let less = sym test-tighter ∙ t in
-            (sym less, ap (set T (getD befores k 0)) (written ∙ sym (when-true _ _ _ less)))
+          pub taken : test ≡ true
+              → (true ≡ tighter durations befores afters T k)
+              × (set T (getD befores k 0) (toZ w32 (ofZ w32 s)) ≡ tightenedAt durations befores afters T k)
+          unfolding tightenedAt tighter lesserZ
+          taken t =
+              let fewer = sym test-tighter ∙ t in
+              (sym fewer, ap (set T (getD befores k 0)) (written ∙ sym (when-true _ _ _ fewer)))
 
-        pub left : test ≡ false
-            → (false ≡ tighter durations befores afters T k) × (T ≡ tightenedAt durations befores afters T k)
-        unfolding tightenedAt tighter lesserZ
-        left t =
-            let less = sym test-tighter ∙ t in (
-              sym less,
-              sym (set-getD T (getD befores k 0) (pos 0)) ∙ ap (set T (getD befores k 0)) (sym (when-false _ _ _ less)),
-            )
+          pub left : test ≡ false
+              → (false ≡ tighter durations befores afters T k) × (T ≡ tightenedAt durations befores afters T k)
+          unfolding tightenedAt tighter lesserZ
+          left t =
+              let fewer = sym test-tighter ∙ t in (
+                sym fewer,
+                sym (set-getD T (getD befores k 0) (pos 0)) ∙ ap (set T (getD befores k 0)) (sym (when-false _ _ _ fewer)),
+              )
 
   -- One link.
   module _ (T : List ℤ) (k : ℕ) where

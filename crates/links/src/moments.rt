@@ -3,7 +3,9 @@
 ghost use Prim.Native.Nat.{_<_, _≤_};
 ghost use mathlib.Core.Path.{_≡_};
 ghost use mathlib.Core.List.{map};
-ghost use lib.IntN.{pos};
+ghost use lib.IntN.{pos, _-ℤ_};
+ghost use mir.Syntax.{w32};
+ghost use mir.Val.{SFits};
 ghost use lib.ListN.{getD, length};
 ghost use Rattle.links.specs.Moments.{takesOffIn, tighter, tightenedAt, tightened, anyTighter, ToTightenOne, ToTighten, ToLay, Laid, ToTime, Timed};
 
@@ -13,6 +15,14 @@ fn takes_off(k: usize, durations: &[u16; 256], afters: &[u16; 1024]) -> i32
     ensures { λ r. ⌜ r ≡ pos (takesOffIn (now (durations .entry)) (now (afters .entry)) k) ⌝ }
 {
     durations[afters[k] as usize] as i32
+}
+
+// A moment less what is taken off it. It may lie below zero.
+fn less(moment: i32, off: i32) -> i32
+    requires { ⌜ SFits w32 (moment -ℤ off) ⌝ }
+    ensures { λ r. ⌜ r ≡ moment -ℤ off ⌝ }
+{
+    moment - off
 }
 
 // Link k tightens the moment of the piece before it, if it leaves less than that piece had so far.
@@ -27,7 +37,7 @@ fn tighten_one(
     ensures { λ r. ⌜ (r ≡ tighter (now (durations .entry)) (now (befores .entry)) (now (afters .entry)) (now (moments .entry)) k) × (now (moments .exit) ≡ tightenedAt (now (durations .entry)) (now (befores .entry)) (now (afters .entry)) (now (moments .entry)) k) ⌝ }
 {
     let b = befores[k] as usize;
-    let left = moments[afters[k] as usize] - takes_off(k, durations, afters);
+    let left = less(moments[afters[k] as usize], takes_off(k, durations, afters));
     if left < moments[b] {
         moments[b] = left;
         return true;

@@ -26,7 +26,7 @@ chain-links-requires c κs =
       last-sized = refl;
       prior-sized = refl;
       few = p .ties .few-links;
-      small = λ k l. omega (arith, p .ties .before-one k l, p .ties .few-pieces);
+      small = λ k l. omega (arith, p .ties .before-one k l, p .ties .after-one k l, p .ties .few-pieces);
       cleared = clear;
     }
 
@@ -35,7 +35,7 @@ count-into-requires c κs =
     let p = c .before .before .before .before .pre in
     record {
       few = p .ties .few-links;
-      small = λ k l. omega (arith, p .ties .after-one k l, p .ties .few-pieces);
+      small = λ k l. omega (arith, p .ties .before-one k l, p .ties .after-one k l, p .ties .few-pieces);
       sized = refl;
       cleared = clear;
     }
