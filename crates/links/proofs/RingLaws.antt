@@ -3,7 +3,7 @@
 -- pieces are placed that it leads to.
 use Prim.Native.Nat.{ℕ, zero, suc, _+_, _-_, _≤_, _<_}
 use mathlib.Core.Bool.{Bool, true, false, not, _&&_, _||_}
-use mathlib.Core.List.{List, [], _∷_, List·Memᴰ as Mem, List·Memᴰ·head as here, List·Memᴰ·tail as there}
+use mathlib.Core.List.{List, [], _∷_, List·Memᴰ as Mem, List·Memᴰ·head as here}
 use mathlib.Core.Option.{Option, none, some}
 use mathlib.Core.Path.{_≡_, refl, sym, ap, _∙_}
 use native.Mathlib.Omega.{arith}
@@ -18,6 +18,7 @@ use Rattle.laws.proofs.Rings.{via-leads, leads-via, leads-on, ring-free, ring-f
 use Rattle.links.specs.Chains.{Chained}
 use Rattle.links.specs.Links.{Ties, follows, counted, linksTo, linksBetween, InOrder}
 use Rattle.links.specs.Queue.{Queue, Passed, among, linksFromFirst, Net, CountedTo, FirstPassed}
+use Rattle.links.specs.Rings.{Placed, ToFind, Lowest}
 use Rattle.links.proofs.Counting.{counted-le, counted-lt, counted-all, none-counted, some-counted, all-counted}
 use Rattle.links.proofs.LinkLaws.{follows-link, link-follows, follows-inside}
 use Rattle.links.proofs.QueueLaws.{queue-most}
@@ -158,7 +159,7 @@ module _ (n m : ℕ) (befores afters : List ℕ) (T : Ties n m befores afters) (
   before-placed k q l o e =
       among-found order q (getD befores k 0) (all-from m befores afters order q (getD order q 0) (complete q o) k l (sym e))
 
-  pub all-placed : r ≡ n → InOrder n m befores afters order
+  all-placed : r ≡ n → InOrder n m befores afters order
   all-placed whole = record {
     sized = F .passed .queue .order-sized;
     inside = λ p l. F .passed .queue .inside p (omega arith);
@@ -188,7 +189,7 @@ module _ (n m : ℕ) (befores afters : List ℕ) (T : Ties n m befores afters) (
             among-place order r (w .0) (getD befores k 0) (w .1) (w .2)),
       ))
 
-  pub some-left : r < n → (w : ℕ) × (lowestOnRing (follows m befores afters) n ≡ some w)
+  some-left : r < n → (w : ℕ) × (lowestOnRing (follows m befores afters) n ≡ some w)
   some-left short = go (lowestOnRing (follows m befores afters) n) refl
     where
       go : (o : Option ℕ) → lowestOnRing (follows m befores afters) n ≡ o → (w : ℕ) × (lowestOnRing (follows m befores afters) n ≡ some w)
@@ -199,6 +200,14 @@ module _ (n m : ℕ) (befores afters : List ℕ) (T : Ties n m befores afters) (
             counted-all (λ i. eqb (getD waits i 0) 0) n (λ i l. eq-eqb (getD waits i 0) 0 (freed e i l)),
           ))
       go (some w) e = (w, e)
+
+  pub pieces-placed : (last prior : List ℕ) → Chained befores m last prior → Placed n m befores afters last prior order r
+  pieces-placed last prior chains = record {
+    chained = chains;
+    sized = F .passed .queue .order-sized;
+    whole = all-placed;
+    short = λ e. some-left (omega (arith, queue-most n r order waits (F .passed .queue)));
+  }
 
 -- Each piece waits for one link; first the links from piece i are passed, then all from what is placed.
 module _ (n m : ℕ) (befores afters : List ℕ) (T : Ties n m befores afters) (i : ℕ)
@@ -258,3 +267,15 @@ module _ (n m : ℕ) (befores afters : List ℕ) (T : Ties n m befores afters) (
 abbrev pub net-of : {n m : ℕ} {befores afters last prior : List ℕ} → Ties n m befores afters → Chained befores m last prior
     → Net afters last prior
 net-of {n} {m} {befores} T C = record { pieces = n; links = m; befores = befores; ties = T; chained = C }
+
+-- Not all are placed: the lowest piece on a ring is there, and what finds it finds the answer.
+module _ {n m : ℕ} {befores afters last prior order : List ℕ} {r : ℕ} (T : Ties n m befores afters)
+    (P : Placed n m befores afters last prior order r) (short : r ≡ n → ⊥) where
+  pub to-find : ToFind afters last prior order
+  to-find =
+      record { net = net-of T (P .chained); lowest = P .short short .0; there = P .short short .1; sized = P .sized }
+
+  pub short-found : (i : ℕ) → Lowest afters last prior i → some i ≡ lowestOnRing (follows m befores afters) n
+  short-found i h =
+      let w = P .short short in
+      ap some (h (net-of T (P .chained)) (w .0) (w .1)) ∙ sym (w .1)

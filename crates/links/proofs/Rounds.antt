@@ -17,7 +17,7 @@ use Rattle.rules.specs.declared.Link.{Link}
 use Rattle.laws.proofs.Signed.{up, dn, _≼_, minus, same, leZ-le, le-leZ, below-zero, below-zero-is}
 use Rattle.laws.proofs.Sound.{mem-place, place-mem, fits, from-link, along-after}
 use Rattle.laws.proofs.Latest.{asked, asked-after, asked-most, within-more, takes-off-most, latest-equation, latest-due, latest-after, latest-least, latest-most}
-use Rattle.links.specs.Moments.{takesOffIn, leftBy, tightened, anyTighter, Floored, ToLay, Laid}
+use Rattle.links.specs.Moments.{takesOffIn, leftBy, tightened, anyTighter, Floored, AllTightened, ToLay, Laid}
 use Rattle.links.proofs.LinkLaws.{job-pieces, job-links, job-piece, job-link, job-ties}
 use Rattle.links.proofs.Tightening.{round-falls, round-tight, round-floored, round-still}
 
@@ -183,14 +183,14 @@ module _ (n m : ℕ) (desks durations releases dues befores afters handovers : L
             same (getD T i (pos 0)) (latest J i) (omega (arith, B .low i l, at-most i (inside i l)))
 
       -- Both, as the code finds them: the moments after the round, and whether it changed one.
-      module _ (W : List ℤ) (e : W ≡ U) (changed : Bool) (q : changed ≡ anyTighter durations befores afters m T) where
+      module _ (changed : Bool) (W : List ℤ) (A : AllTightened durations befores afters m T changed W) where
         pub round-on : Between (suc r) W
-        round-on = rw e between-on
+        round-on = rw (A .result) between-on
 
         pub round-last : not changed ≡ true → (i : ℕ) → i < n → getD W i (pos 0) ≡ latest J i
         round-last t i l =
-            let still = sym q ∙ not-true changed t in
-            rw (e, round-still durations befores afters m T still) (between-still still i l)
+            let still = sym (A .flag) ∙ not-true changed t in
+            rw (A .result, round-still durations befores afters m T still) (between-still still i l)
 
     -- With as many rounds as pieces all chains are followed.
     pub between-end : (r : ℕ) (T : List ℤ) → Between r T → n ≤ r → r ≤ n → (i : ℕ) → i < n → getD T i (pos 0) ≡ latest J i

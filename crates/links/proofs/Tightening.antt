@@ -1,5 +1,5 @@
--- Moments tightened link by link: they only fall, each link holds after its turn, nothing falls below a floor that no link
--- tightens, and all of it stays in the range of a signed 32-bit number.
+-- Moments tightened link by link: they only fall, each link holds after its turn, nothing falls below a floor that no
+-- link tightens, and all of it stays in the range of a signed 32-bit number.
 use Prim.Native.Nat.{ℕ, zero, suc, _+_, _-_, _≤_, _<_}
 use mathlib.Core.Bool.{Bool, true, false, _||_}
 use mathlib.Core.List.{List}
@@ -20,7 +20,8 @@ use Rattle.laws.proofs.Words.{by-test, or-false, or-left, or-right, when-true, 
 use Rattle.laws.proofs.Signed.{up, dn, _≼_, minus, leZ-le, le-leZ, lesser-left, lesser-right, lesser-most}
 use Rattle.links.specs.Links.{Ties}
 use Rattle.links.proofs.Counting.{below-or-last}
-use Rattle.links.specs.Moments.{takesOffIn, leftBy, tighter, tightenedAt, tightened, anyTighter, Floored, ToTighten, ToLay, Laid}
+use Rattle.links.specs.Moments.{takesOffIn, leftBy, tighter, tightenedAt, tightened, anyTighter, Floored}
+use Rattle.links.specs.Moments.{ToTighten, ToTightenOne, OneTightened, AllTightened, ToLay, Laid}
 
 or-none : (b : Bool) → b ≡ (b || false)
 or-none true = refl
@@ -102,21 +103,24 @@ module _ (durations befores afters : List ℕ) where
               rw (written, toZ-ofZ w32 (getD T (getD befores k 0) (pos 0)) (entry-fits (getD befores k 0) (F .ties .before-one k l)))
 
           pub taken : test ≡ true
-              → (true ≡ tighter durations befores afters T k)
-              × (set T (getD befores k 0) (toZ w32 (ofZ w32 s)) ≡ tightenedAt durations befores afters T k)
+              → OneTightened durations befores afters k T true (set T (getD befores k 0) (toZ w32 (ofZ w32 s)))
           unfolding tightenedAt tighter lesserZ
           taken t =
               let fewer = sym test-tighter ∙ t in
-              (sym fewer, ap (set T (getD befores k 0)) (written ∙ sym (when-true _ _ _ fewer)))
+              record {
+                flag = sym fewer;
+                result = ap (set T (getD befores k 0)) (written ∙ sym (when-true _ _ _ fewer));
+              }
 
-          pub left : test ≡ false
-              → (false ≡ tighter durations befores afters T k) × (T ≡ tightenedAt durations befores afters T k)
+          pub left : test ≡ false → OneTightened durations befores afters k T false T
           unfolding tightenedAt tighter lesserZ
           left t =
-              let fewer = sym test-tighter ∙ t in (
-                sym fewer,
-                sym (set-getD T (getD befores k 0) (pos 0)) ∙ ap (set T (getD befores k 0)) (sym (when-false _ _ _ fewer)),
-              )
+              let fewer = sym test-tighter ∙ t in
+              record {
+                flag = sym fewer;
+                result = sym (set-getD T (getD befores k 0) (pos 0))
+                    ∙ ap (set T (getD befores k 0)) (sym (when-false _ _ _ fewer));
+              }
 
   -- One link.
   module _ (T : List ℤ) (k : ℕ) where
@@ -241,13 +245,14 @@ module _ (durations befores afters : List ℕ) where
   pub midst-start : (m : ℕ) (T : List ℤ) → ToTighten m durations befores afters T → Midst m m T T false
   midst-start m T A = record { place = omega arith; all = A; rest = refl; flag = refl }
 
+  -- One link further.
   module _ (m k : ℕ) (T₀ T : List ℤ) (changed : Bool) (M : Midst m k T₀ T changed) (on : 0 < k)
-      (U : List ℤ) (e : U ≡ tightenedAt durations befores afters T (k - 1)) where
+      (r : Bool) (U : List ℤ) (O : OneTightened durations befores afters (k - 1) T r U) where
     again : k ≡ suc (k - 1)
     again = omega arith
 
     all-on : ToTighten m durations befores afters U
-    all-on = rw e (record {
+    all-on = rw (O .result) (record {
       pieces = M .all .pieces;
       floor = M .all .floor;
       floored = step-floored (M .all .pieces) m (M .all .floor) T (k - 1) (omega (arith, M .place)) (M .all .floored);
@@ -255,33 +260,41 @@ module _ (durations befores afters : List ℕ) where
 
     rest-on : tightened durations befores afters (k - 1) U ≡ tightened durations befores afters m T₀
     unfolding tightened
-    rest-on = rw e (rw again at (M .rest))
+    rest-on = rw (O .result) (rw again at (M .rest))
 
-    flag-on : (changed || (tighter durations befores afters T (k - 1) || anyTighter durations befores afters (k - 1) U))
-        ≡ anyTighter durations befores afters m T₀
+    flag-on : (changed || (r || anyTighter durations befores afters (k - 1) U)) ≡ anyTighter durations befores afters m T₀
     unfolding anyTighter
-    flag-on = rw e (rw again at (M .flag))
+    flag-on = rw (O .flag, O .result) (rw again at (M .flag))
 
-    pub midst-tighter : (r : Bool) → r ≡ tighter durations befores afters T (k - 1) → r ≡ true → Midst m (k - 1) T₀ U true
-    midst-tighter r q t = record {
+    pub midst-tighter : r ≡ true → Midst m (k - 1) T₀ U true
+    midst-tighter t = record {
       place = omega (arith, M .place);
       all = all-on;
       rest = rest-on;
-      flag = sym (or-right changed _ (or-left (tighter durations befores afters T (k - 1)) _ (sym q ∙ t))) ∙ flag-on;
+      flag = sym (or-right changed _ (or-left r _ t)) ∙ flag-on;
     }
 
-    pub midst-same : (r : Bool) → r ≡ tighter durations befores afters T (k - 1) → r ≡ false → Midst m (k - 1) T₀ U changed
-    midst-same r q t = record {
+    pub midst-same : r ≡ false → Midst m (k - 1) T₀ U changed
+    midst-same t = record {
       place = omega (arith, M .place);
       all = all-on;
       rest = rest-on;
-      flag = ap (λ b. changed || (b || anyTighter durations befores afters (k - 1) U)) (sym t ∙ q) ∙ flag-on;
+      flag = ap (λ b. changed || (b || anyTighter durations befores afters (k - 1) U)) (sym t) ∙ flag-on;
     }
 
-  pub midst-end : (m : ℕ) (T₀ T : List ℤ) (changed : Bool) → Midst m 0 T₀ T changed
-      → (changed ≡ anyTighter durations befores afters m T₀) × (T ≡ tightened durations befores afters m T₀)
+  pub midst-end : (m k : ℕ) (T₀ T : List ℤ) (changed : Bool) → Midst m k T₀ T changed → k ≤ 0
+      → AllTightened durations befores afters m T₀ changed T
   unfolding tightened anyTighter
-  midst-end m T₀ T changed M = (or-none changed ∙ M .flag, M .rest)
+  midst-end m zero T₀ T changed M l = record { flag = or-none changed ∙ M .flag; result = M .rest }
+  midst-end m (suc k) T₀ T changed M l = absurd (omega arith)
+
+  -- Both pieces of a link have their places in the table.
+  module _ (k : ℕ) (T : List ℤ) (A : ToTightenOne k durations befores afters T) where
+    pub before-room : getD befores k 0 < 256
+    before-room = let t = A .all .floored .ties in omega (arith, t .before-one k (A .here), t .few-pieces)
+
+    pub after-room : getD afters k 0 < 256
+    after-room = let t = A .all .floored .ties in omega (arith, t .after-one k (A .here), t .few-pieces)
 
 -- Each piece's own due: none yet, one more.
 pub laid-none : (n : ℕ) (dues : List ℕ) (T : List ℤ) → ToLay n dues T → Laid 0 dues T
