@@ -6,19 +6,18 @@ use mathlib.Core.List.{List}
 use mathlib.Core.Path.{_≡_, refl, sym, ap, _∙_}
 use native.Mathlib.Numerals.{add-one}
 use native.Mathlib.Omega.{arith}
-use borrow.Author.Tests.{eqb-true, eqb-false, ltb-true, ltb-false}
-use lib.Dec.{eqb, ltb}
+use borrow.Author.Tests.{eqb-true, eqb-false}
+use lib.Dec.{eqb}
 use lib.IntN.{ℤ, pos, negsuc, _-ℤ_}
 use lib.ListN.{length, getD, set, length-set}
 use lib.Seq.{getD-set-same, getD-set-other, set-getD}
-use lib.Signed.{ltZ, leZ}
+use lib.Signed.{ltZ}
 use mir.Syntax.{w32}
 use mir.Val.{SFits, toZ, ofZ}
 use mir.ValLaws.{toZ-ofZ, toZ-pos}
-use Rattle.rules.specs.Words.{when, lesserZ}
+use Rattle.rules.specs.Words.{lesserZ}
 use Rattle.laws.proofs.Words.{by-test, or-false, or-left, or-right, when-true, when-false}
 use Rattle.laws.proofs.Signed.{up, dn, _≼_, minus, leZ-le, le-leZ, lesser-left, lesser-right, lesser-most}
-use Rattle.links.specs.Links.{Ties}
 use Rattle.links.proofs.Counting.{below-or-last}
 use Rattle.links.specs.Moments.{takesOffIn, leftBy, tighter, tightenedAt, tightened, anyTighter, Floored}
 use Rattle.links.specs.Moments.{ToTighten, ToTightenOne, OneTightened, AllTightened, ToLay, Laid}
@@ -100,7 +99,8 @@ module _ (durations befores afters : List ℕ) where
           test-tighter : test ≡ tighter durations befores afters T k
           unfolding tighter
           test-tighter =
-              rw (written, toZ-ofZ w32 (getD T (getD befores k 0) (pos 0)) (entry-fits (getD befores k 0) (F .ties .before-one k l)))
+              let fits = entry-fits (getD befores k 0) (F .ties .before-one k l) in
+              rw (written, toZ-ofZ w32 (getD T (getD befores k 0) (pos 0)) fits)
 
           pub taken : test ≡ true
               → OneTightened durations befores afters k T true (set T (getD befores k 0) (toZ w32 (ofZ w32 s)))
@@ -149,8 +149,8 @@ module _ (durations befores afters : List ℕ) where
       step-tight : getD next (getD befores k 0) (pos 0) ≼ leftBy durations befores afters T k
       step-tight = rw step-own (lesser-right _ _)
 
-      step-above : (i : ℕ) (z : ℤ) → z ≼ getD T i (pos 0) → (i ≡ getD befores k 0 → z ≼ leftBy durations befores afters T k)
-          → z ≼ getD next i (pos 0)
+      step-above : (i : ℕ) (z : ℤ) → z ≼ getD T i (pos 0)
+          → (i ≡ getD befores k 0 → z ≼ leftBy durations befores afters T k) → z ≼ getD next i (pos 0)
       step-above i z h g = by-test (eqb i (getD befores k 0))
           (λ e. let q : i ≡ getD befores k 0 = eqb-true i (getD befores k 0) e in
           rw (q, step-own) (lesser-most _ _ z (rw q at h) (g q)))
@@ -171,7 +171,8 @@ module _ (durations befores afters : List ℕ) where
       omega (arith, minus x d, minus y d)
 
   -- The floor stays below.
-  pub step-floored : (n m : ℕ) (floor : ℕ → ℤ) (T : List ℤ) (k : ℕ) → k < m → Floored n m durations befores afters floor T
+  pub step-floored : (n m : ℕ) (floor : ℕ → ℤ) (T : List ℤ) (k : ℕ) → k < m
+      → Floored n m durations befores afters floor T
       → Floored n m durations befores afters floor (tightenedAt durations befores afters T k)
   step-floored n m floor T k l F = record {
     ties = F .ties;
@@ -192,7 +193,8 @@ module _ (durations befores afters : List ℕ) where
 
   -- One round over the first m links.
   module _ (n : ℕ) where
-    pub round-floored : (m count : ℕ) (floor : ℕ → ℤ) (T : List ℤ) → m ≤ count → Floored n count durations befores afters floor T
+    pub round-floored : (m count : ℕ) (floor : ℕ → ℤ) (T : List ℤ) → m ≤ count
+        → Floored n count durations befores afters floor T
         → Floored n count durations befores afters floor (tightened durations befores afters m T)
     unfolding tightened
     round-floored zero count floor T l F = F
@@ -231,8 +233,9 @@ module _ (durations befores afters : List ℕ) where
   unfolding tightened anyTighter
   round-still zero T h = refl
   round-still (suc k) T h =
-      let w = or-false (tighter durations befores afters T k) (anyTighter durations befores afters k (tightenedAt durations befores afters T k)) h in
-      round-still k (tightenedAt durations befores afters T k) (w .1) ∙ step-still T k (w .0)
+      let U = tightenedAt durations befores afters T k in
+      let w = or-false (tighter durations befores afters T k) (anyTighter durations befores afters k U) h in
+      round-still k U (w .1) ∙ step-still T k (w .0)
 
   -- In the midst of a round, before link k - 1: what is left of it makes the whole.
   module _ (m k : ℕ) (T₀ T : List ℤ) (changed : Bool) where
@@ -262,7 +265,8 @@ module _ (durations befores afters : List ℕ) where
     unfolding tightened
     rest-on = rw (O .result) (rw again at (M .rest))
 
-    flag-on : (changed || (r || anyTighter durations befores afters (k - 1) U)) ≡ anyTighter durations befores afters m T₀
+    flag-on : (changed || (r || anyTighter durations befores afters (k - 1) U))
+        ≡ anyTighter durations befores afters m T₀
     unfolding anyTighter
     flag-on = rw (O .flag, O .result) (rw again at (M .flag))
 

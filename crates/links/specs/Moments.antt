@@ -1,5 +1,5 @@
--- Latest moments in a table of signed numbers: one link after the other tightens the moment of the piece before it, until
--- a round over the links changes nothing.
+-- Latest moments in a table of signed numbers: one link after the other tightens the moment of the piece before it,
+-- until a round over the links changes nothing.
 use Prim.Native.Nat.{ℕ, zero, suc, _≤_, _<_}
 use mathlib.Core.Bool.{Bool, true, false, _||_}
 use mathlib.Core.List.{List}
@@ -68,11 +68,13 @@ pub record ToTightenOne (k : ℕ) (durations befores afters : List ℕ) (moments
   pub all : ToTighten links durations befores afters moments
 
 -- One link tightened, and the round over the first m: the moments after it, and whether it changed one.
-pub record OneTightened (durations befores afters : List ℕ) (k : ℕ) (moments : List ℤ) (r : Bool) (after : List ℤ) : Type 0 where
+pub record OneTightened (durations befores afters : List ℕ) (k : ℕ) (moments : List ℤ) (r : Bool) (after : List ℤ)
+    : Type 0 where
   pub flag : r ≡ tighter durations befores afters moments k
   pub result : after ≡ tightenedAt durations befores afters moments k
 
-pub record AllTightened (durations befores afters : List ℕ) (m : ℕ) (moments : List ℤ) (r : Bool) (after : List ℤ) : Type 0 where
+pub record AllTightened (durations befores afters : List ℕ) (m : ℕ) (moments : List ℤ) (r : Bool) (after : List ℤ)
+    : Type 0 where
   pub flag : r ≡ anyTighter durations befores afters m moments
   pub result : after ≡ tightened durations befores afters m moments
 

@@ -1,5 +1,5 @@
-// Pieces placed in a queue as soon as nothing is left that they wait for: `order[..placed]` holds them, `waits[j]` is what
-// piece j still waits for. Each link from a placed piece is passed once, along the piece's chain.
+// Pieces placed in a queue as soon as nothing is left that they wait for: `order[..placed]` holds them, `waits[j]` is
+// what piece j still waits for. Each link from a placed piece is passed once, along the piece's chain.
 ghost use Prim.Native.Nat.{_≤_};
 ghost use lib.ListN.{length};
 ghost use mathlib.Core.Path.{_≡_};

@@ -1,5 +1,5 @@
-// The ring check on plain tables of links: an order of the pieces in which every piece stands after the pieces before it,
-// or the lowest piece that leads by links back to itself. The search for that piece runs only where there is a ring.
+// The ring check on plain tables of links: an order of the pieces in which every piece stands after the pieces before
+// it, or the lowest piece that leads by links back to itself. The search for that piece runs only where there is a ring.
 use crate::chains::chain_links;
 use crate::queue::count_into;
 use crate::queue::pass_all;
@@ -49,7 +49,7 @@ fn lowest_on_ring(
     i
 }
 
-// Pieces placed one after the other once all links into them are passed; how many. The links from each piece are chained.
+// Pieces placed one after the other once all links into them are passed; how many. The links are chained on the way.
 fn place_pieces(
     pieces: usize,
     links: usize,

@@ -1,5 +1,5 @@
--- `latest_moments` meets its contract: after each round the moments lie between the latest moments and those with chains
--- of so many links followed.
+-- `latest_moments` meets its contract: after each round the moments lie between the latest moments and those with
+-- chains of so many links followed.
 use Prim.Native.Nat.{ℕ, _≤_, _-_}
 use mathlib.Core.List.{List}
 use mathlib.Core.Option.{none}
@@ -11,10 +11,6 @@ use Rattle.rules.specs.Tables.{jobIn, Sound}
 use Rattle.links.proofs.Rounds.{Between, to-lay, between-start, floored, round-on, round-last, between-end}
 use Rattle.links.proofs.moments.latest_moments.Statement.{statement}
 use Rattle.links.proofs.moments.latest_moments.Tie as tie
-use Rattle.links.proofs.moments.latest_moments.Reads as reads
-use Rattle.links.proofs.moments.latest_moments.Lts as lts
-use Rattle.links.proofs.moments.own_dues.Reads as own-dues-reads
-use Rattle.links.proofs.moments.tighten.Reads as tighten-reads
 
 abbrev Inv-loop : tie.InvT-loop
 Inv-loop pieces links durations dues befores afters moments₀ round₀ moments round =

@@ -1,13 +1,8 @@
 -- `tighten` meets its contract: the links still to come, over the moments so far, make the whole round.
-use Prim.Native.Nat.{_-_}
-use mathlib.Core.Path.{_≡_}
 use native.Mathlib.Omega.{arith}
 use Rattle.links.proofs.Tightening.{Midst, midst-start, midst-tighter, midst-same, midst-end}
 use Rattle.links.proofs.moments.tighten.Statement.{statement}
 use Rattle.links.proofs.moments.tighten.Tie as tie
-use Rattle.links.proofs.moments.tighten.Reads as reads
-use Rattle.links.proofs.moments.tighten.Lts as lts
-use Rattle.links.proofs.moments.tighten_one.Reads as tighten-one-reads
 
 abbrev Inv-loop : tie.InvT-loop
 Inv-loop links durations befores afters moments₀ changed₀ k₀ moments changed k =

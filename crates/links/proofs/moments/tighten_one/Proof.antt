@@ -4,10 +4,6 @@ use borrow.Author.Needs.{needs}
 use Rattle.links.proofs.Tightening.{before-room, after-room, computed-fits, taken, left}
 use Rattle.links.proofs.moments.tighten_one.Statement.{statement}
 use Rattle.links.proofs.moments.tighten_one.Tie as tie
-use Rattle.links.proofs.moments.tighten_one.Reads as reads
-use Rattle.links.proofs.moments.tighten_one.Lts as lts
-use Rattle.links.proofs.moments.less.Reads as less-reads
-use Rattle.links.proofs.moments.takes_off.Reads as takes-off-reads
 
 mul-b : tie.Need-mul-b
 mul-b c = search needs
@@ -36,7 +32,8 @@ element-copy-out-less-2 c = after-room _ _ _ _ _ (c .before .before .pre)
 takes-off-requires : tie.Need-takes-off-requires
 takes-off-requires c κs =
     let p = c .before .before .before .pre in
-    (omega (arith, p .here, p .all .floored .ties .few-links), after-room _ _ _ _ _ p, p .all .floored .small _ (p .here))
+    let f = p .all .floored in
+    (omega (arith, p .here, f .ties .few-links), after-room _ _ _ _ _ p, f .small _ (p .here))
 
 less-requires : tie.Need-less-requires
 less-requires c κs =
@@ -59,13 +56,15 @@ returns : tie.Need-returns
 returns c =
     let p = c .before .before .before .before .before .before .before .pre in
     let d = c .before .before in
-    taken _ _ _ _ _ _ _ (p .all .floored) _ (p .here) _ (d .before .takes-off .ensures) _ (d .less .ensures) (c .if1 .taken)
+    taken _ _ _ _ _ _ _ (p .all .floored) _ (p .here) _ (d .before .takes-off .ensures) _ (d .less .ensures)
+    (c .if1 .taken)
 
 returns-2 : tie.Need-returns-2
 returns-2 c =
     let p = c .before .before .before .before .before .before .before .pre in
     let d = c .before .before in
-    left _ _ _ _ _ _ _ (p .all .floored) _ (p .here) _ (d .before .takes-off .ensures) _ (d .less .ensures) (c .if1 .left)
+    left _ _ _ _ _ _ _ (p .all .floored) _ (p .here) _ (d .before .takes-off .ensures) _ (d .less .ensures)
+    (c .if1 .left)
 
 pub tighten-one-spec : {M : Type 1} → statement M
 tighten-one-spec =

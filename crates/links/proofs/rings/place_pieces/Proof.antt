@@ -1,18 +1,10 @@
 -- `place_pieces` meets its contract: all links are passed from the pieces that are placed.
-use Prim.Native.Nat.{ℕ, _<_}
-use mathlib.Core.Path.{_≡_, refl}
+use mathlib.Core.Path.{refl}
 use native.Mathlib.Omega.{arith}
-use lib.ListN.{getD, replicate, getD-replicate}
-use borrow.Author.Needs.{needs}
-use Rattle.links.proofs.RingLaws.{net-of, pieces-placed}
+use lib.ListN.{getD-replicate}
+use Rattle.links.proofs.Placing.{net-of, pieces-placed}
 use Rattle.links.proofs.rings.place_pieces.Statement.{statement}
 use Rattle.links.proofs.rings.place_pieces.Tie as tie
-use Rattle.links.proofs.rings.place_pieces.Reads as reads
-use Rattle.links.proofs.rings.place_pieces.Lts as lts
-use Rattle.links.proofs.chains.chain_links.Reads as chain-links-reads
-use Rattle.links.proofs.queue.count_into.Reads as count-into-reads
-use Rattle.links.proofs.queue.pass_all.Reads as pass-all-reads
-use Rattle.links.proofs.queue.place_free.Reads as place-free-reads
 
 chain-links-requires : tie.Need-chain-links-requires
 chain-links-requires c κs = c .before .before .pre .chains
@@ -45,7 +37,8 @@ returns c =
     let free = c .before .before .before .before .before in
     let chained = free .before .before .before .before .before in
     let ties = chained .before .before .before .pre .check .ties in
-    pieces-placed _ _ _ _ ties _ _ _ (free .place-free .ensures) (free .before .before .before .count-into .ensures) _ _ _
+    let counted = free .before .before .before .count-into .ensures in
+    pieces-placed _ _ _ _ ties _ _ _ (free .place-free .ensures) counted _ _ _
     (c .pass-all .ensures (net-of ties (chained .chain-links .ensures)) (free .place-free .ensures)) _ _
     (chained .chain-links .ensures)
 

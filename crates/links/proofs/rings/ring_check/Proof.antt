@@ -3,13 +3,10 @@ use Prim.Native.Nat.{ℕ}
 use mathlib.Core.Path.{_≡_, refl, sym}
 use native.Mathlib.Omega.{arith}
 use lib.ListN.{getD-replicate}
-use Rattle.links.proofs.RingLaws.{order-free, to-find, short-found}
+use Rattle.links.proofs.RingLaws.{order-free}
+use Rattle.links.proofs.Placing.{to-find, short-found}
 use Rattle.links.proofs.rings.ring_check.Statement.{statement}
 use Rattle.links.proofs.rings.ring_check.Tie as tie
-use Rattle.links.proofs.rings.ring_check.Reads as reads
-use Rattle.links.proofs.rings.ring_check.Lts as lts
-use Rattle.links.proofs.rings.lowest_on_ring.Reads as lowest-on-ring-reads
-use Rattle.links.proofs.rings.place_pieces.Reads as place-pieces-reads
 
 place-pieces-requires : tie.Need-place-pieces-requires
 place-pieces-requires c κs =
@@ -28,16 +25,22 @@ place-pieces-requires c κs =
 returns : tie.Need-returns
 returns c =
     let order = c .before .place-pieces .ensures .whole (c .if1 .taken) in
-    record { found = sym (order-free _ _ _ _ _ (c .before .before .before .before .before .pre .ties) order); ordered = λ e. order }
+    let ties = c .before .before .before .before .before .pre .ties in
+    record { found = sym (order-free _ _ _ _ _ ties order); ordered = λ e. order }
 
 lowest-on-ring-requires : tie.Need-lowest-on-ring-requires
-lowest-on-ring-requires c κs = to-find (c .before .before .before .before .before .before .before .before .pre .ties) (c .before .before .before .before .place-pieces .ensures) (c .before .before .before .if1 .left)
+lowest-on-ring-requires c κs =
+    let placed = c .before .before .before .before in
+    to-find (placed .before .before .before .before .pre .ties) (placed .place-pieces .ensures)
+    (c .before .before .before .if1 .left)
 
 returns-2 : tie.Need-returns-2
 returns-2 c =
-    let ties = c .before .before .before .before .before .before .before .before .before .pre .ties in
+    let short = c .before .before .before .before in
+    let placed = short .before in
+    let ties = placed .before .before .before .before .pre .ties in
     record {
-      found = short-found ties (c .before .before .before .before .before .place-pieces .ensures) (c .before .before .before .before .if1 .left) _ (c .lowest-on-ring .ensures);
+      found = short-found ties (placed .place-pieces .ensures) (short .if1 .left) _ (c .lowest-on-ring .ensures);
       ordered = λ e. let z : _≡_ {A = ℕ} 0 1 = cc in absurd (omega arith);
     }
 
