@@ -70,7 +70,7 @@ fn place_pieces(
     pass_all(free, afters, last, prior, order, &mut waits)
 }
 
-// The check.
+// No ring, and `order` holds the pieces in order; or the lowest piece on a ring, and `order` holds nothing of use.
 pub fn ring_check(
     pieces: usize,
     links: usize,
