@@ -1,6 +1,6 @@
 -- How many numbers below n pass a test: two tests compared, one number more, and the links of a table counted.
 use Prim.Native.Nat.{ℕ, zero, suc, _+_, _≤_, _<_}
-use mathlib.Core.Bool.{Bool, true, false, _&&_, _||_}
+use mathlib.Core.Bool.{Bool, true, false}
 use mathlib.Core.Path.{_≡_, refl, sym, ap, _∙_}
 use native.Mathlib.Omega.{arith}
 use borrow.Author.Tests.{ltb-true, ltb-false}
@@ -52,7 +52,8 @@ module _ (p q : ℕ → Bool) where
       (λ m. let ih : counted q n ≡ suc (counted p n) = counted-one n x m (λ k o. h k (omega arith)) np qx in
       let e : p n ≡ q n = h n (omega arith) (λ z. absurd (omega arith)) in
       rw e (omega arith))
-      (λ m. let rest : counted p n ≡ counted q n = counted-same n (λ k o. h k (omega arith) (λ z. absurd (omega arith))) in
+      (λ m. let rest : counted p n ≡ counted q n =
+      counted-same n (λ k o. h k (omega arith) (λ z. absurd (omega arith))) in
       let a : p n ≡ false = ap p (sym m) ∙ np in
       let b : q n ≡ true = ap q (sym m) ∙ qx in
       rw (a, b, when) (omega arith))

@@ -1,24 +1,24 @@
 -- Links passed along the chain of one piece, and from all pieces in the queue.
 use Prim.Native.Nat.{ℕ, zero, suc, _+_, _-_, _≤_, _<_}
-use mathlib.Core.Bool.{Bool, true, false, _&&_, _||_}
+use mathlib.Core.Bool.{true, false, _&&_}
 use mathlib.Core.List.{List}
 use mathlib.Core.Logic.{_⊎_, inl, inr}
 use mathlib.Core.Path.{_≡_, refl, sym, ap, _∙_}
 use native.Mathlib.Omega.{arith}
 use borrow.Author.Tests.{eqb-true, eqb-false, eq-eqb, ne-eqb, ltb-true, ltb-false}
 use lib.Dec.{eqb, ltb}
-use lib.ListN.{length, getD}
+use lib.ListN.{getD}
 use Rattle.rules.specs.Words.{when}
 use Rattle.laws.proofs.Words.{by-test, true-or-false, or-true, or-left, or-right, and-true, and-intro}
 use Rattle.links.specs.Chains.{lastWith}
-use Rattle.links.specs.Links.{Ties, counted, linksBetween}
+use Rattle.links.specs.Links.{linksBetween}
 use Rattle.links.specs.Queue.{Queue, Passed, among, linksFromFirst, Net, FirstPassed}
 use Rattle.links.proofs.ChainLaws.{chain-most, chain-key, chain-skip}
 use Rattle.links.proofs.Counting.{below-or-last, counted-same, counted-le, counted-none, counted-split}
 
 -- On the way along the chain of piece i, before the link at place `at - 1`: what is left to pass there makes it whole.
-pub record Walking (n m : ℕ) (befores afters : List ℕ) (i t : ℕ) (order waits : List ℕ) (at r : ℕ) (order₂ waits₂ : List ℕ)
-    : Type 0 where
+pub record Walking (n m : ℕ) (befores afters : List ℕ) (i t : ℕ) (order waits : List ℕ)
+    (at r : ℕ) (order₂ waits₂ : List ℕ) : Type 0 where
   pub place : at ≤ m
   pub own : (k : ℕ) → at ≡ suc k → getD befores k 0 ≡ i
   pub queue : Queue n r order₂ waits₂
@@ -40,7 +40,8 @@ between-own : (befores afters : List ℕ) (i j k : ℕ) → getD befores k 0 ≡
 unfolding linksBetween
 between-own befores afters i j k h = by-test (eqb j (getD afters k 0))
     (λ e. rw (eq-eqb (getD befores k 0) i h, eq-eqb (getD afters k 0) j (sym (eqb-true j (getD afters k 0) e)), e))
-    (λ e. rw (eq-eqb (getD befores k 0) i h, ne-eqb (getD afters k 0) j (λ q. eqb-false j (getD afters k 0) e (sym q)), e))
+    (λ e. let no : getD afters k 0 ≡ j → ⊥ = λ q. eqb-false j (getD afters k 0) e (sym q) in
+    rw (eq-eqb (getD befores k 0) i h, ne-eqb (getD afters k 0) j no, e))
 
 module _ (afters last prior : List ℕ) (N : Net afters last prior) (i t : ℕ) (order waits : List ℕ) where
   abbrev Walk : ℕ → ℕ → List ℕ → List ℕ → Type 0
@@ -106,7 +107,8 @@ among-found order zero x e = true-or-false (sym e)
 among-found order (suc h) x e = go (or-true (eqb (getD order h 0) x) (among order h x) e) (λ f. among-found order h x f)
   where
     go : (eqb (getD order h 0) x ≡ true) ⊎ (among order h x ≡ true)
-        → (among order h x ≡ true → (p : ℕ) × (p < h) × (getD order p 0 ≡ x)) → (p : ℕ) × (p < suc h) × (getD order p 0 ≡ x)
+        → (among order h x ≡ true → (p : ℕ) × (p < h) × (getD order p 0 ≡ x))
+        → (p : ℕ) × (p < suc h) × (getD order p 0 ≡ x)
     go (inl f) ih = (h, omega arith, eqb-true (getD order h 0) x f)
     go (inr f) ih = let w = ih f in (w .0, omega (arith, w .1), w .2)
 
@@ -115,7 +117,8 @@ unfolding among
 among-place order zero p x l e = absurd (omega arith)
 among-place order (suc h) p x l e = below-or-last p h l
     (λ k. or-right (eqb (getD order h 0) x) (among order h x) (among-place order h p x k e))
-    (λ k. or-left (eqb (getD order h 0) x) (among order h x) (eq-eqb (getD order h 0) x (ap (λ y. getD order y 0) (sym k) ∙ e)))
+    (λ k. or-left (eqb (getD order h 0) x) (among order h x)
+    (eq-eqb (getD order h 0) x (ap (λ y. getD order y 0) (sym k) ∙ e)))
 
 among-kept : (order order₂ : List ℕ) (h x : ℕ) → ((q : ℕ) → q < h → getD order₂ q 0 ≡ getD order q 0)
     → among order₂ h x ≡ among order h x
@@ -155,8 +158,8 @@ module _ (m : ℕ) (befores afters : List ℕ) where
       (λ e. by-test (eqb (getD order h 0) (getD befores k 0))
       (λ f. let q : getD befores k 0 ≡ getD order h 0 = sym (eqb-true (getD order h 0) (getD befores k 0) f) in
       rw (e, q, new, eq-eqb (getD order h 0) (getD order h 0) refl, when))
-      (λ f. rw (e, f, ne-eqb (getD befores k 0) (getD order h 0) (λ q. eqb-false (getD order h 0) (getD befores k 0) f (sym q)), when)
-      (omega arith)))
+      (λ f. let no : getD befores k 0 ≡ getD order h 0 → ⊥ = λ q. eqb-false (getD order h 0) (getD befores k 0) f (sym q) in
+      rw (e, f, ne-eqb (getD befores k 0) (getD order h 0) no, when) (omega arith)))
       (λ e. by-test (eqb (getD befores k 0) (getD order h 0)) (λ f. rw (e, f, when)) (λ f. rw (e, f, when))))
 
 -- From the first h of the queue to the first h + 1.
@@ -185,7 +188,8 @@ module _ (n m : ℕ) (befores afters : List ℕ) (t : ℕ) (order waits : List �
 
     module _ (r₃ : ℕ) (order₃ waits₃ : List ℕ)
         (P : Passed n r (linksBetween m befores afters (getD order₂ h 0)) order₂ waits₂ r₃ order₃ waits₃) where
-      all-lowered : (j : ℕ) → j < n → getD waits₃ j 0 ≡ getD waits j 0 - linksFromFirst m befores afters order₃ (suc h) j
+      all-lowered : (j : ℕ) → j < n
+          → getD waits₃ j 0 ≡ getD waits j 0 - linksFromFirst m befores afters order₃ (suc h) j
       all-lowered j l =
           omega (
             arith,
@@ -199,8 +203,8 @@ module _ (n m : ℕ) (befores afters : List ℕ) (t : ℕ) (order waits : List �
           → getD waits (getD order₃ q 0) 0 ≤ linksFromFirst m befores afters order₃ q (getD order₃ q 0)
       all-earned q l k = by-test (ltb q r)
           (λ e. let o : q < r = ltb-true q r e in
-          rw (first-kept m befores afters order₂ order₃ q (getD order₃ q 0) (λ p i. P .kept p (omega arith)), P .kept q o)
-          (F .earned q l o))
+          let same = first-kept m befores afters order₂ order₃ q (getD order₃ q 0) (λ p i. P .kept p (omega arith)) in
+          rw (same, P .kept q o) (F .earned q l o))
           (λ e. omega (
             arith,
             ltb-false q r e,

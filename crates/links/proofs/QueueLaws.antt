@@ -1,19 +1,18 @@
--- The queue of pieces that wait for nothing: one piece more of which it is asked, one piece that waits for one less, and
--- the links passed from one piece and from all that are placed.
-use Prim.Native.Nat.{ℕ, zero, suc, _+_, _-_, _≤_, _<_}
-use mathlib.Core.Bool.{Bool, true, false, _&&_, _||_}
+-- The queue of pieces that wait for nothing: one piece more of which it is asked, and one piece that waits for one less.
+-- And the links into each piece counted, for which the pieces wait at first.
+use Prim.Native.Nat.{ℕ, suc, _+_, _-_, _≤_, _<_}
 use mathlib.Core.List.{List}
 use mathlib.Core.Path.{_≡_, refl, sym, ap, _∙_}
 use native.Mathlib.Numerals.{add-one}
 use native.Mathlib.Omega.{arith}
-use borrow.Author.Tests.{eqb-true, eqb-false, eq-eqb, ne-eqb, ltb-true, ltb-false}
-use lib.Dec.{eqb, ltb}
+use borrow.Author.Tests.{eqb-true, eqb-false, eq-eqb, ne-eqb}
+use lib.Dec.{eqb}
 use lib.ListN.{length, getD, set, length-set}
 use lib.Seq.{getD-set-same, getD-set-other}
 use Rattle.rules.specs.Words.{when}
-use Rattle.laws.proofs.Words.{by-test, when-true, when-false}
+use Rattle.laws.proofs.Words.{by-test}
 use Rattle.links.specs.Links.{counted, linksTo}
-use Rattle.links.specs.Queue.{Queue, Passed, ToCount, CountedTo}
+use Rattle.links.specs.Queue.{Queue, Passed, ToCount, CountedTo, ToPassOne}
 use Rattle.links.proofs.Counting.{counted-none, counted-same, counted-one, counted-most, below-or-last}
 
 -- Links into each piece: none yet, one more, and no more than were looked at.
@@ -29,7 +28,8 @@ count-more k afters waits h small = rw (add-one k) (record {
   counts = λ j l. by-test (eqb (getD afters k 0) j)
       (λ e. let q : getD afters k 0 ≡ j = eqb-true (getD afters k 0) j e in
       rw (e, q) (getD-set-same waits j _ 0 (omega (arith, h .sized)) ∙ omega (arith, h .counts j l)))
-      (λ e. rw e (getD-set-other waits (getD afters k 0) j _ 0 (λ q. eqb-false (getD afters k 0) j e (sym q)) ∙ omega (arith, h .counts j l)));
+      (λ e. let no : j ≡ getD afters k 0 → ⊥ = λ q. eqb-false (getD afters k 0) j e (sym q) in
+      rw e (getD-set-other waits (getD afters k 0) j _ 0 no ∙ omega (arith, h .counts j l)));
 })
 
 pub count-most : (k j : ℕ) (afters waits : List ℕ) → CountedTo k afters waits → j < 256 → getD waits j 0 ≤ k
@@ -55,7 +55,8 @@ pub queue-ones : (n : ℕ) (order waits : List ℕ) → length order ≡ 256 →
 queue-ones n order waits h k ones = record {
   order-sized = h;
   waits-sized = k;
-  as-many = counted-none (λ i. eqb (getD waits i 0) 0) n (λ i l. ne-eqb (getD waits i 0) 0 (λ z. absurd (omega (arith, ones i l))));
+  as-many = counted-none (λ i. eqb (getD waits i 0) 0) n
+      (λ i l. ne-eqb (getD waits i 0) 0 (λ z. absurd (omega (arith, ones i l))));
   inside = λ q l. absurd (omega arith);
   idle = λ q l. absurd (omega arith);
   once = λ p q l. absurd (omega arith);
@@ -81,7 +82,8 @@ queue-waiting n t order waits Q h = record {
   inside = λ q l. omega (arith, Q .inside q l);
   idle = Q .idle;
   once = Q .once;
-  everyone = λ i l z. below-or-last i n l (λ k. Q .everyone i k z) (λ k. absurd (h (ap (λ x. getD waits x 0) (sym k) ∙ z)));
+  everyone = λ i l z. below-or-last i n l (λ k. Q .everyone i k z)
+      (λ k. absurd (h (ap (λ x. getD waits x 0) (sym k) ∙ z)));
 }
 
 -- The same pieces wait for nothing.
@@ -92,7 +94,8 @@ queue-same n t order waits waits₂ Q sized same = record {
   waits-sized = sized;
   as-many = sym (counted-same (λ i. eqb (getD waits i 0) 0) (λ i. eqb (getD waits₂ i 0) 0) n same) ∙ Q .as-many;
   inside = Q .inside;
-  idle = λ q l. eqb-true (getD waits₂ (getD order q 0) 0) 0 (sym (same (getD order q 0) (Q .inside q l)) ∙ eq-eqb _ 0 (Q .idle q l));
+  idle = λ q l. eqb-true (getD waits₂ (getD order q 0) 0) 0
+      (sym (same (getD order q 0) (Q .inside q l)) ∙ eq-eqb _ 0 (Q .idle q l));
   once = Q .once;
   everyone = λ i l z. Q .everyone i l (eqb-true (getD waits i 0) 0 (same i l ∙ eq-eqb _ 0 z));
 }
@@ -133,7 +136,8 @@ module _ (n n₂ t x : ℕ) (order waits waits₂ : List ℕ) (Q : Queue n t ord
       let w = Q .everyone i (was .0) (was .1) in
       (w .0, omega (arith, w .1), behind t (w .0) x order (w .1) ∙ w .2))
 
-  queue-placed : length waits₂ ≡ 256 → counted (λ i. eqb (getD waits₂ i 0) 0) n₂ ≡ suc t → Queue n₂ (suc t) (set order t x) waits₂
+  queue-placed : length waits₂ ≡ 256 → counted (λ i. eqb (getD waits₂ i 0) 0) n₂ ≡ suc t
+      → Queue n₂ (suc t) (set order t x) waits₂
   queue-placed sized many = record {
     order-sized = length-set order t x ∙ Q .order-sized;
     waits-sized = sized;
@@ -207,10 +211,11 @@ module _ (n t j : ℕ) (order waits : List ℕ) (Q : Queue n t order waits) (one
       (ne-eqb (getD waits j 0) 0 (λ z. absurd (omega arith))) (eq-eqb (getD now-waits j 0) 0 (own ∙ omega arith))
       ∙ ap suc (Q .as-many)
 
-  pub passed-room : getD waits j 0 ≡ 1 → t < n
+  passed-room : getD waits j 0 ≡ 1 → t < n
   passed-room w = omega (arith, counted-most (λ i. eqb (getD now-waits i 0) 0) n, one-more w)
 
-  pub passed-last : getD waits j 0 ≡ 1 → Passed n t (λ x. when (eqb x j) 1 0) order waits (suc t) (set order t j) now-waits
+  pub passed-last : getD waits j 0 ≡ 1
+      → Passed n t (λ x. when (eqb x j) 1 0) order waits (suc t) (set order t j) now-waits
   passed-last w = record {
     queue = queue-placed n n t j order waits now-waits Q (omega (arith, passed-room w)) one (own ∙ omega arith)
         (λ l z. absurd (omega arith))
@@ -220,3 +225,7 @@ module _ (n t j : ℕ) (order waits : List ℕ) (Q : Queue n t order waits) (one
     kept = λ q l. behind t q j order l;
     lowered = lowered-one;
   }
+
+pub room-for-one : (j t : ℕ) (order waits : List ℕ) → ToPassOne j t order waits → getD waits j 0 ≡ 1 → t < 256
+room-for-one j t order waits A w =
+    omega (arith, passed-room (A .pieces) t j order waits (A .queue) (A .one) (A .few) w, A .few)

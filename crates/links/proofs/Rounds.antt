@@ -1,10 +1,10 @@
--- Rounds over the links of a sound job without a ring: after so many rounds the moments lie between the latest moments and
--- those with chains of so many links followed; a round that changes nothing leaves the latest moments.
-use Prim.Native.Nat.{ℕ, zero, suc, _+_, _-_, _≤_, _<_}
+-- Rounds over the links of a sound job without a ring: after so many rounds the moments lie between the latest moments
+-- and those with chains of so many links followed; a round that changes nothing leaves the latest moments.
+use Prim.Native.Nat.{ℕ, suc, _≤_, _<_}
 use mathlib.Core.Bool.{Bool, true, false, not}
 use mathlib.Core.List.{List, List·Memᴰ as Mem}
 use mathlib.Core.Option.{none}
-use mathlib.Core.Path.{_≡_, refl, sym, ap, subst, _∙_}
+use mathlib.Core.Path.{_≡_, sym, ap, subst, _∙_}
 use native.Mathlib.Omega.{arith}
 use borrow.Author.Tests.{not-true}
 use lib.IntN.{ℤ, pos, negsuc, _-ℤ_}
@@ -14,10 +14,11 @@ use Rattle.rules.specs.Moments.{takesOff, latestWithin, latest}
 use Rattle.rules.specs.Rings.{ringPiece}
 use Rattle.rules.specs.Tables.{pieceIn, linkIn, jobIn, Sound, noLink}
 use Rattle.rules.specs.declared.Link.{Link}
-use Rattle.laws.proofs.Signed.{up, dn, _≼_, minus, same, leZ-le, le-leZ, below-zero, below-zero-is}
+use Rattle.laws.proofs.Signed.{up, dn, _≼_, minus, same, leZ-le, le-leZ, below-zero-is}
 use Rattle.laws.proofs.Sound.{mem-place, place-mem, fits, from-link, along-after}
-use Rattle.laws.proofs.Latest.{asked, asked-after, asked-most, within-more, takes-off-most, latest-equation, latest-due, latest-after, latest-least, latest-most}
-use Rattle.links.specs.Moments.{takesOffIn, leftBy, tightened, anyTighter, Floored, ToLay, Laid}
+use Rattle.laws.proofs.Latest.{asked, asked-after, asked-most, within-more, takes-off-most}
+use Rattle.laws.proofs.Latest.{latest-equation, latest-due, latest-after, latest-least}
+use Rattle.links.specs.Moments.{takesOffIn, leftBy, tightened, anyTighter, Floored, AllTightened, ToLay, Laid}
 use Rattle.links.proofs.LinkLaws.{job-pieces, job-links, job-piece, job-link, job-ties}
 use Rattle.links.proofs.Tightening.{round-falls, round-tight, round-floored, round-still}
 
@@ -25,23 +26,33 @@ module _ (n m : ℕ) (desks durations releases dues befores afters handovers : L
   abbrev J : Job
   J = jobIn n m desks durations releases dues befores afters handovers
 
+  piece-at : (i : ℕ) → i < n → piece J i ≡ pieceIn desks durations releases dues i
+  piece-at = job-piece n m desks durations releases dues befores afters handovers
+
+  as-many-pieces : pieceCount J ≡ n
+  as-many-pieces = job-pieces n m desks durations releases dues befores afters handovers
+
+  as-many-links : length (J .links) ≡ m
+  as-many-links = job-links n m desks durations releases dues befores afters handovers
+
   -- What a link of the job takes off stands in the tables.
-  link-off : (k : ℕ) → getD afters k 0 < n → takesOff J (linkIn befores afters handovers k) ≡ takesOffIn durations afters k
+  link-off : (k : ℕ) → getD afters k 0 < n
+      → takesOff J (linkIn befores afters handovers k) ≡ takesOffIn durations afters k
   unfolding takesOff takesOffIn linkIn pieceIn
-  link-off k l = ap (λ p. p .duration) (job-piece n m desks durations releases dues befores afters handovers (getD afters k 0) l)
+  link-off k l = ap (λ p. p .duration) (piece-at (getD afters k 0) l)
 
   job-due : (i : ℕ) → i < n → piece J i .due ≡ getD dues i 0
   unfolding pieceIn
-  job-due i l = ap (λ p. p .due) (job-piece n m desks durations releases dues befores afters handovers i l)
+  job-due i l = ap (λ p. p .due) (piece-at i l)
 
   link-there : (k : ℕ) → k < m → Mem (linkIn befores afters handovers k) (J .links)
   link-there k l =
       rw (job-link n m desks durations releases dues befores afters handovers k l)
-      at (place-mem noLink (J .links) k (omega (arith, job-links n m desks durations releases dues befores afters handovers)))
+      at (place-mem noLink (J .links) k (omega (arith, as-many-links)))
 
   module _ (sound : Sound J) (free : ringPiece J ≡ none) where
     inside : (i : ℕ) → i < n → i < pieceCount J
-    inside i l = omega (arith, job-pieces n m desks durations releases dues befores afters handovers)
+    inside i l = omega (arith, as-many-pieces)
 
     after-one : (k : ℕ) → k < m → getD afters k 0 < n
     after-one = job-ties n m desks durations releases dues befores afters handovers sound .after-one
@@ -94,13 +105,15 @@ module _ (n m : ℕ) (desks durations releases dues befores afters handovers : L
         → latest J (getD befores k 0) ≼ (latest J (getD afters k 0) -ℤ pos (takesOffIn durations afters k))
     unfolding linkIn
     link-holds k l =
-        rw (link-off k (after-one k l)) at (latest-after J sound free (linkIn befores afters handovers k) (link-there k l))
+        rw (link-off k (after-one k l))
+        at (latest-after J sound free (linkIn befores afters handovers k) (link-there k l))
 
-    link-at : (i : ℕ) (l : Link) → Mem l (linksFrom J i) → (k : ℕ) × (k < m) × (linkIn befores afters handovers k ≡ l) × (l .before ≡ i)
+    link-at : (i : ℕ) (l : Link) → Mem l (linksFrom J i)
+        → (k : ℕ) × (k < m) × (linkIn befores afters handovers k ≡ l) × (l .before ≡ i)
     link-at i l o =
         let f = from-link J i l o in
         let w = mem-place noLink (J .links) l (f .0) in
-        let here : w .0 < m = omega (arith, w .1, job-links n m desks durations releases dues befores afters handovers) in
+        let here : w .0 < m = omega (arith, w .1, as-many-links) in
         (w .0, here, sym (job-link n m desks durations releases dues befores afters handovers (w .0) here) ∙ w .2, f .1)
 
     -- A round goes one link further.
@@ -115,7 +128,8 @@ module _ (n m : ℕ) (desks durations releases dues befores afters handovers : L
         least = λ i l. le-leZ (negsuc 244799) (latest J i)
             (omega (arith, latest-least J sound free i (inside i l), below-zero-is 244800));
         above = λ i l. le-leZ (latest J i) (getD T i (pos 0)) (B .low i l);
-        most = λ i l. le-leZ (getD T i (pos 0)) (pos 40000) (omega (arith, B .due i l, fits J sound i (inside i l) .due-most));
+        most = λ i l. le-leZ (getD T i (pos 0)) (pos 40000)
+            (omega (arith, B .due i l, fits J sound i (inside i l) .due-most));
       }
 
       rooms : (k : ℕ) → k < m → getD befores k 0 < length T
@@ -164,7 +178,7 @@ module _ (n m : ℕ) (desks durations releases dues befores afters handovers : L
         at-most =
             along-after J sound free {P = λ i. getD T i (pos 0) ≼ latest J i}
             (λ i l later.
-            let one : i < n = omega (arith, job-pieces n m desks durations releases dues befores afters handovers) in
+            let one : i < n = omega (arith, as-many-pieces) in
             rw (latest-equation J sound free i l)
             (asked-most J (latest J) i (getD T i (pos 0)) (B .due i one)
             (λ x o.
@@ -183,19 +197,20 @@ module _ (n m : ℕ) (desks durations releases dues befores afters handovers : L
             same (getD T i (pos 0)) (latest J i) (omega (arith, B .low i l, at-most i (inside i l)))
 
       -- Both, as the code finds them: the moments after the round, and whether it changed one.
-      module _ (W : List ℤ) (e : W ≡ U) (changed : Bool) (q : changed ≡ anyTighter durations befores afters m T) where
+      module _ (changed : Bool) (W : List ℤ) (A : AllTightened durations befores afters m T changed W) where
         pub round-on : Between (suc r) W
-        round-on = rw e between-on
+        round-on = rw (A .result) between-on
 
         pub round-last : not changed ≡ true → (i : ℕ) → i < n → getD W i (pos 0) ≡ latest J i
         round-last t i l =
-            let still = sym q ∙ not-true changed t in
-            rw (e, round-still durations befores afters m T still) (between-still still i l)
+            let still = sym (A .flag) ∙ not-true changed t in
+            rw (A .result, round-still durations befores afters m T still) (between-still still i l)
 
     -- With as many rounds as pieces all chains are followed.
-    pub between-end : (r : ℕ) (T : List ℤ) → Between r T → n ≤ r → r ≤ n → (i : ℕ) → i < n → getD T i (pos 0) ≡ latest J i
+    pub between-end : (r : ℕ) (T : List ℤ) → Between r T → n ≤ r → r ≤ n
+        → (i : ℕ) → i < n → getD T i (pos 0) ≡ latest J i
     unfolding latest
     between-end r T B full most i l =
-        let q : r ≡ pieceCount J = omega (arith, job-pieces n m desks durations releases dues befores afters handovers) in
+        let q : r ≡ pieceCount J = omega (arith, as-many-pieces) in
         let top : getD T i (pos 0) ≼ latest J i = rw q at (B .high i l) in
         same (getD T i (pos 0)) (latest J i) (omega (arith, B .low i l))

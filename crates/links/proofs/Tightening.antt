@@ -1,26 +1,26 @@
--- Moments tightened link by link: they only fall, each link holds after its turn, nothing falls below a floor that no link
--- tightens, and all of it stays in the range of a signed 32-bit number.
+-- Moments tightened link by link: they only fall, each link holds after its turn, nothing falls below a floor that no
+-- link tightens, and all of it stays in the range of a signed 32-bit number.
 use Prim.Native.Nat.{ℕ, zero, suc, _+_, _-_, _≤_, _<_}
 use mathlib.Core.Bool.{Bool, true, false, _||_}
 use mathlib.Core.List.{List}
 use mathlib.Core.Path.{_≡_, refl, sym, ap, _∙_}
 use native.Mathlib.Numerals.{add-one}
 use native.Mathlib.Omega.{arith}
-use borrow.Author.Tests.{eqb-true, eqb-false, ltb-true, ltb-false}
-use lib.Dec.{eqb, ltb}
+use borrow.Author.Tests.{eqb-true, eqb-false}
+use lib.Dec.{eqb}
 use lib.IntN.{ℤ, pos, negsuc, _-ℤ_}
 use lib.ListN.{length, getD, set, length-set}
 use lib.Seq.{getD-set-same, getD-set-other, set-getD}
-use lib.Signed.{ltZ, leZ}
+use lib.Signed.{ltZ}
 use mir.Syntax.{w32}
 use mir.Val.{SFits, toZ, ofZ}
 use mir.ValLaws.{toZ-ofZ, toZ-pos}
-use Rattle.rules.specs.Words.{when, lesserZ}
+use Rattle.rules.specs.Words.{lesserZ}
 use Rattle.laws.proofs.Words.{by-test, or-false, or-left, or-right, when-true, when-false}
 use Rattle.laws.proofs.Signed.{up, dn, _≼_, minus, leZ-le, le-leZ, lesser-left, lesser-right, lesser-most}
-use Rattle.links.specs.Links.{Ties}
 use Rattle.links.proofs.Counting.{below-or-last}
-use Rattle.links.specs.Moments.{takesOffIn, leftBy, tighter, tightenedAt, tightened, anyTighter, Floored, ToTighten, ToLay, Laid}
+use Rattle.links.specs.Moments.{takesOffIn, leftBy, tighter, tightenedAt, tightened, anyTighter, Floored}
+use Rattle.links.specs.Moments.{ToTighten, ToTightenOne, OneTightened, AllTightened, ToLay, Laid}
 
 or-none : (b : Bool) → b ≡ (b || false)
 or-none true = refl
@@ -89,33 +89,38 @@ module _ (durations befores afters : List ℕ) where
         pub computed-fits : SFits w32 computed
         computed-fits = rw computed-left left-fits
 
-        written : toZ w32 (ofZ w32 computed) ≡ leftBy durations befores afters T k
-        written = toZ-ofZ w32 computed computed-fits ∙ computed-left
+        module _ (s : ℤ) (d : s ≡ computed) where
+          written : toZ w32 (ofZ w32 s) ≡ leftBy durations befores afters T k
+          written = toZ-ofZ w32 s (rw d computed-fits) ∙ d ∙ computed-left
 
-        abbrev test : Bool
-        test = ltZ (toZ w32 (ofZ w32 computed)) (toZ w32 (ofZ w32 (getD T (getD befores k 0) (pos 0))))
+          abbrev test : Bool
+          test = ltZ (toZ w32 (ofZ w32 s)) (toZ w32 (ofZ w32 (getD T (getD befores k 0) (pos 0))))
 
-        test-tighter : test ≡ tighter durations befores afters T k
-        unfolding tighter
-        test-tighter =
-            rw (written, toZ-ofZ w32 (getD T (getD befores k 0) (pos 0)) (entry-fits (getD befores k 0) (F .ties .before-one k l)))
+          test-tighter : test ≡ tighter durations befores afters T k
+          unfolding tighter
+          test-tighter =
+              let fits = entry-fits (getD befores k 0) (F .ties .before-one k l) in
+              rw (written, toZ-ofZ w32 (getD T (getD befores k 0) (pos 0)) fits)
 
-        pub taken : test ≡ true
-            → (true ≡ tighter durations befores afters T k)
-            × (set T (getD befores k 0) (toZ w32 (ofZ w32 computed)) ≡ tightenedAt durations befores afters T k)
-        unfolding tightenedAt tighter lesserZ
-        taken t =
-            let less = sym test-tighter ∙ t in
-            (sym less, ap (set T (getD befores k 0)) (written ∙ sym (when-true _ _ _ less)))
+          pub taken : test ≡ true
+              → OneTightened durations befores afters k T true (set T (getD befores k 0) (toZ w32 (ofZ w32 s)))
+          unfolding tightenedAt tighter lesserZ
+          taken t =
+              let fewer = sym test-tighter ∙ t in
+              record {
+                flag = sym fewer;
+                result = ap (set T (getD befores k 0)) (written ∙ sym (when-true _ _ _ fewer));
+              }
 
-        pub left : test ≡ false
-            → (false ≡ tighter durations befores afters T k) × (T ≡ tightenedAt durations befores afters T k)
-        unfolding tightenedAt tighter lesserZ
-        left t =
-            let less = sym test-tighter ∙ t in (
-              sym less,
-              sym (set-getD T (getD befores k 0) (pos 0)) ∙ ap (set T (getD befores k 0)) (sym (when-false _ _ _ less)),
-            )
+          pub left : test ≡ false → OneTightened durations befores afters k T false T
+          unfolding tightenedAt tighter lesserZ
+          left t =
+              let fewer = sym test-tighter ∙ t in
+              record {
+                flag = sym fewer;
+                result = sym (set-getD T (getD befores k 0) (pos 0))
+                    ∙ ap (set T (getD befores k 0)) (sym (when-false _ _ _ fewer));
+              }
 
   -- One link.
   module _ (T : List ℤ) (k : ℕ) where
@@ -144,8 +149,8 @@ module _ (durations befores afters : List ℕ) where
       step-tight : getD next (getD befores k 0) (pos 0) ≼ leftBy durations befores afters T k
       step-tight = rw step-own (lesser-right _ _)
 
-      step-above : (i : ℕ) (z : ℤ) → z ≼ getD T i (pos 0) → (i ≡ getD befores k 0 → z ≼ leftBy durations befores afters T k)
-          → z ≼ getD next i (pos 0)
+      step-above : (i : ℕ) (z : ℤ) → z ≼ getD T i (pos 0)
+          → (i ≡ getD befores k 0 → z ≼ leftBy durations befores afters T k) → z ≼ getD next i (pos 0)
       step-above i z h g = by-test (eqb i (getD befores k 0))
           (λ e. let q : i ≡ getD befores k 0 = eqb-true i (getD befores k 0) e in
           rw (q, step-own) (lesser-most _ _ z (rw q at h) (g q)))
@@ -166,7 +171,8 @@ module _ (durations befores afters : List ℕ) where
       omega (arith, minus x d, minus y d)
 
   -- The floor stays below.
-  pub step-floored : (n m : ℕ) (floor : ℕ → ℤ) (T : List ℤ) (k : ℕ) → k < m → Floored n m durations befores afters floor T
+  pub step-floored : (n m : ℕ) (floor : ℕ → ℤ) (T : List ℤ) (k : ℕ) → k < m
+      → Floored n m durations befores afters floor T
       → Floored n m durations befores afters floor (tightenedAt durations befores afters T k)
   step-floored n m floor T k l F = record {
     ties = F .ties;
@@ -187,7 +193,8 @@ module _ (durations befores afters : List ℕ) where
 
   -- One round over the first m links.
   module _ (n : ℕ) where
-    pub round-floored : (m count : ℕ) (floor : ℕ → ℤ) (T : List ℤ) → m ≤ count → Floored n count durations befores afters floor T
+    pub round-floored : (m count : ℕ) (floor : ℕ → ℤ) (T : List ℤ) → m ≤ count
+        → Floored n count durations befores afters floor T
         → Floored n count durations befores afters floor (tightened durations befores afters m T)
     unfolding tightened
     round-floored zero count floor T l F = F
@@ -226,8 +233,9 @@ module _ (durations befores afters : List ℕ) where
   unfolding tightened anyTighter
   round-still zero T h = refl
   round-still (suc k) T h =
-      let w = or-false (tighter durations befores afters T k) (anyTighter durations befores afters k (tightenedAt durations befores afters T k)) h in
-      round-still k (tightenedAt durations befores afters T k) (w .1) ∙ step-still T k (w .0)
+      let U = tightenedAt durations befores afters T k in
+      let w = or-false (tighter durations befores afters T k) (anyTighter durations befores afters k U) h in
+      round-still k U (w .1) ∙ step-still T k (w .0)
 
   -- In the midst of a round, before link k - 1: what is left of it makes the whole.
   module _ (m k : ℕ) (T₀ T : List ℤ) (changed : Bool) where
@@ -240,13 +248,14 @@ module _ (durations befores afters : List ℕ) where
   pub midst-start : (m : ℕ) (T : List ℤ) → ToTighten m durations befores afters T → Midst m m T T false
   midst-start m T A = record { place = omega arith; all = A; rest = refl; flag = refl }
 
+  -- One link further.
   module _ (m k : ℕ) (T₀ T : List ℤ) (changed : Bool) (M : Midst m k T₀ T changed) (on : 0 < k)
-      (U : List ℤ) (e : U ≡ tightenedAt durations befores afters T (k - 1)) where
+      (r : Bool) (U : List ℤ) (O : OneTightened durations befores afters (k - 1) T r U) where
     again : k ≡ suc (k - 1)
     again = omega arith
 
     all-on : ToTighten m durations befores afters U
-    all-on = rw e (record {
+    all-on = rw (O .result) (record {
       pieces = M .all .pieces;
       floor = M .all .floor;
       floored = step-floored (M .all .pieces) m (M .all .floor) T (k - 1) (omega (arith, M .place)) (M .all .floored);
@@ -254,33 +263,42 @@ module _ (durations befores afters : List ℕ) where
 
     rest-on : tightened durations befores afters (k - 1) U ≡ tightened durations befores afters m T₀
     unfolding tightened
-    rest-on = rw e (rw again at (M .rest))
+    rest-on = rw (O .result) (rw again at (M .rest))
 
-    flag-on : (changed || (tighter durations befores afters T (k - 1) || anyTighter durations befores afters (k - 1) U))
+    flag-on : (changed || (r || anyTighter durations befores afters (k - 1) U))
         ≡ anyTighter durations befores afters m T₀
     unfolding anyTighter
-    flag-on = rw e (rw again at (M .flag))
+    flag-on = rw (O .flag, O .result) (rw again at (M .flag))
 
-    pub midst-tighter : (r : Bool) → r ≡ tighter durations befores afters T (k - 1) → r ≡ true → Midst m (k - 1) T₀ U true
-    midst-tighter r q t = record {
+    pub midst-tighter : r ≡ true → Midst m (k - 1) T₀ U true
+    midst-tighter t = record {
       place = omega (arith, M .place);
       all = all-on;
       rest = rest-on;
-      flag = sym (or-right changed _ (or-left (tighter durations befores afters T (k - 1)) _ (sym q ∙ t))) ∙ flag-on;
+      flag = sym (or-right changed _ (or-left r _ t)) ∙ flag-on;
     }
 
-    pub midst-same : (r : Bool) → r ≡ tighter durations befores afters T (k - 1) → r ≡ false → Midst m (k - 1) T₀ U changed
-    midst-same r q t = record {
+    pub midst-same : r ≡ false → Midst m (k - 1) T₀ U changed
+    midst-same t = record {
       place = omega (arith, M .place);
       all = all-on;
       rest = rest-on;
-      flag = ap (λ b. changed || (b || anyTighter durations befores afters (k - 1) U)) (sym t ∙ q) ∙ flag-on;
+      flag = ap (λ b. changed || (b || anyTighter durations befores afters (k - 1) U)) (sym t) ∙ flag-on;
     }
 
-  pub midst-end : (m : ℕ) (T₀ T : List ℤ) (changed : Bool) → Midst m 0 T₀ T changed
-      → (changed ≡ anyTighter durations befores afters m T₀) × (T ≡ tightened durations befores afters m T₀)
+  pub midst-end : (m k : ℕ) (T₀ T : List ℤ) (changed : Bool) → Midst m k T₀ T changed → k ≤ 0
+      → AllTightened durations befores afters m T₀ changed T
   unfolding tightened anyTighter
-  midst-end m T₀ T changed M = (or-none changed ∙ M .flag, M .rest)
+  midst-end m zero T₀ T changed M l = record { flag = or-none changed ∙ M .flag; result = M .rest }
+  midst-end m (suc k) T₀ T changed M l = absurd (omega arith)
+
+  -- Both pieces of a link have their places in the table.
+  module _ (k : ℕ) (T : List ℤ) (A : ToTightenOne k durations befores afters T) where
+    pub before-room : getD befores k 0 < 256
+    before-room = let t = A .all .floored .ties in omega (arith, t .before-one k (A .here), t .few-pieces)
+
+    pub after-room : getD afters k 0 < 256
+    after-room = let t = A .all .floored .ties in omega (arith, t .after-one k (A .here), t .few-pieces)
 
 -- Each piece's own due: none yet, one more.
 pub laid-none : (n : ℕ) (dues : List ℕ) (T : List ℤ) → ToLay n dues T → Laid 0 dues T

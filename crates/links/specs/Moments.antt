@@ -1,5 +1,5 @@
--- Latest moments in a table of signed numbers: one link after the other tightens the moment of the piece before it, until a
--- round over the links changes nothing.
+-- Latest moments in a table of signed numbers: one link after the other tightens the moment of the piece before it,
+-- until a round over the links changes nothing.
 use Prim.Native.Nat.{ℕ, zero, suc, _≤_, _<_}
 use mathlib.Core.Bool.{Bool, true, false, _||_}
 use mathlib.Core.List.{List}
@@ -31,7 +31,8 @@ module _ (durations befores afters : List ℕ) where
 
   unfoldable pub tightenedAt : List ℤ → ℕ → List ℤ
   unfolding leftBy lesserZ
-  tightenedAt moments k = set moments (getD befores k 0) (lesserZ (getD moments (getD befores k 0) (pos 0)) (leftBy moments k))
+  tightenedAt moments k =
+      set moments (getD befores k 0) (lesserZ (getD moments (getD befores k 0) (pos 0)) (leftBy moments k))
 
   -- The first m links one after the other, from the last to the first; and whether one of them changed a moment.
   unfoldable pub tightened : ℕ → List ℤ → List ℤ
@@ -44,8 +45,8 @@ module _ (durations befores afters : List ℕ) where
   anyTighter zero moments = false
   anyTighter (suc k) moments = tighter moments k || anyTighter k (tightenedAt moments k)
 
--- Signed numbers that stay within the range of latest moments, and small enough for one more link: they lie above a floor
--- which no link tightens.
+-- Moments that stay in the range of latest moments however often they are tightened: they lie above a floor which no
+-- link tightens.
 pub record Floored (n m : ℕ) (durations befores afters : List ℕ) (floor : ℕ → ℤ) (moments : List ℤ) : Type 0 where
   pub ties : Ties n m befores afters
   pub sized : length moments ≡ 256
@@ -65,6 +66,17 @@ pub record ToTightenOne (k : ℕ) (durations befores afters : List ℕ) (moments
   pub links : ℕ
   pub here : k < links
   pub all : ToTighten links durations befores afters moments
+
+-- One link tightened, and the round over the first m: the moments after it, and whether it changed one.
+pub record OneTightened (durations befores afters : List ℕ) (k : ℕ) (moments : List ℤ) (r : Bool) (after : List ℤ)
+    : Type 0 where
+  pub flag : r ≡ tighter durations befores afters moments k
+  pub result : after ≡ tightenedAt durations befores afters moments k
+
+pub record AllTightened (durations befores afters : List ℕ) (m : ℕ) (moments : List ℤ) (r : Bool) (after : List ℤ)
+    : Type 0 where
+  pub flag : r ≡ anyTighter durations befores afters m moments
+  pub result : after ≡ tightened durations befores afters m moments
 
 -- To lay each piece's own due, and the dues laid.
 pub record ToLay (n : ℕ) (dues : List ℕ) (moments : List ℤ) : Type 0 where
@@ -91,4 +103,5 @@ pub record Timed (n m : ℕ) (durations dues befores afters : List ℕ) (moments
   pub latests : (desks releases handovers : List ℕ)
       → Sound (jobIn n m desks durations releases dues befores afters handovers)
       → ringPiece (jobIn n m desks durations releases dues befores afters handovers) ≡ none
-      → (i : ℕ) → i < n → getD moments i (pos 0) ≡ latest (jobIn n m desks durations releases dues befores afters handovers) i
+      → (i : ℕ) → i < n
+      → getD moments i (pos 0) ≡ latest (jobIn n m desks durations releases dues befores afters handovers) i

@@ -1,6 +1,6 @@
--- Pieces placed in a queue as soon as nothing is left that they wait for. The ring check lets a piece wait for each link
--- into it; the search for a ring lets it wait for one. Passing on is the same for both.
-use Prim.Native.Nat.{ℕ, zero, suc, _+_, _-_, _≤_, _<_}
+-- Pieces placed in a queue as soon as nothing is left that they wait for. The ring check lets a piece wait for each
+-- link into it; the search for a ring lets it wait for one. Passing on is the same for both.
+use Prim.Native.Nat.{ℕ, zero, suc, _-_, _≤_, _<_}
 use mathlib.Core.Bool.{Bool, false, _&&_, _||_}
 use mathlib.Core.List.{List}
 use mathlib.Core.Path.{_≡_}
@@ -86,8 +86,8 @@ pub record ToPassAll (t : ℕ) (afters last prior order waits : List ℕ) : Type
 
 -- All links from the first h of the queue are passed; and what was placed on the way was placed for links from pieces
 -- that stand earlier in the queue.
-pub record FirstPassed (n m : ℕ) (befores afters : List ℕ) (t : ℕ) (order waits : List ℕ) (h r : ℕ) (order₂ waits₂ : List ℕ)
-    : Type 0 where
+pub record FirstPassed (n m : ℕ) (befores afters : List ℕ) (t : ℕ) (order waits : List ℕ)
+    (h r : ℕ) (order₂ waits₂ : List ℕ) : Type 0 where
   pub within : h ≤ r
   pub passed : Passed n t (linksFromFirst m befores afters order₂ h) order waits r order₂ waits₂
   pub earned : (q : ℕ) → t ≤ q → q < r

@@ -6,6 +6,7 @@ use mathlib.Core.Option.{Option, none, some}
 use mathlib.Core.Path.{_≡_}
 use lib.ListN.{length}
 use Rattle.rules.specs.Rings.{via, lowestOnRing}
+use Rattle.links.specs.Chains.{Chained, ToChain}
 use Rattle.links.specs.Links.{Ties, follows, InOrder}
 use Rattle.links.specs.Queue.{Net}
 use Rattle.links.specs.declared.rings.Ring.{Ring}
@@ -25,6 +26,18 @@ pub record ToCheck (n m : ℕ) (befores afters order : List ℕ) : Type 0 where
 pub record RingChecked (n m : ℕ) (befores afters order : List ℕ) (r : Ring) : Type 0 where
   pub found : ringAt r ≡ lowestOnRing (follows m befores afters) n
   pub ordered : r ≡ Free → InOrder n m befores afters order
+
+-- To place the pieces: the same, and clear tables for the chains.
+pub record ToPlace (n m : ℕ) (befores afters last prior order : List ℕ) : Type 0 where
+  pub check : ToCheck n m befores afters order
+  pub chains : ToChain befores m last prior
+
+-- So many are placed, in order if all are; a piece is left only for a ring.
+pub record Placed (n m : ℕ) (befores afters last prior order : List ℕ) (r : ℕ) : Type 0 where
+  pub chained : Chained befores m last prior
+  pub sized : length order ≡ 256
+  pub whole : r ≡ n → InOrder n m befores afters order
+  pub short : (r ≡ n → ⊥) → (w : ℕ) × (lowestOnRing (follows m befores afters) n ≡ some w)
 
 -- The links of chains, from piece to piece.
 abbrev pub netFollows : {afters last prior : List ℕ} → Net afters last prior → ℕ → ℕ → Bool

@@ -1,11 +1,13 @@
-// Latest moments of all pieces, as signed numbers: first each piece's own due, then round after round over the links, from
-// the last to the first, until one changes nothing. Without a ring there are no more rounds than pieces.
+// Latest moments of all pieces, as signed numbers: first each piece's own due, then round after round over the links,
+// from the last to the first, until one changes nothing. Without a ring there are no more rounds than pieces.
 ghost use Prim.Native.Nat.{_<_, _≤_};
 ghost use mathlib.Core.Path.{_≡_};
-ghost use mathlib.Core.List.{map};
-ghost use lib.IntN.{pos};
-ghost use lib.ListN.{getD, length};
-ghost use Rattle.links.specs.Moments.{takesOffIn, tighter, tightenedAt, tightened, anyTighter, ToTightenOne, ToTighten, ToLay, Laid, ToTime, Timed};
+ghost use lib.IntN.{pos, _-ℤ_};
+ghost use mir.Syntax.{w32};
+ghost use mir.Val.{SFits};
+ghost use lib.ListN.{getD};
+ghost use Rattle.links.specs.Moments.{takesOffIn, ToTightenOne, OneTightened, ToTighten, AllTightened};
+ghost use Rattle.links.specs.Moments.{ToLay, Laid, ToTime, Timed};
 
 // What link k takes off the latest moment of the piece before it: the follower's duration.
 fn takes_off(k: usize, durations: &[u16; 256], afters: &[u16; 1024]) -> i32
@@ -13,6 +15,14 @@ fn takes_off(k: usize, durations: &[u16; 256], afters: &[u16; 1024]) -> i32
     ensures { λ r. ⌜ r ≡ pos (takesOffIn (now (durations .entry)) (now (afters .entry)) k) ⌝ }
 {
     durations[afters[k] as usize] as i32
+}
+
+// A moment less what is taken off it. It may lie below zero.
+fn less(moment: i32, off: i32) -> i32
+    requires { ⌜ SFits w32 (moment -ℤ off) ⌝ }
+    ensures { λ r. ⌜ r ≡ moment -ℤ off ⌝ }
+{
+    moment - off
 }
 
 // Link k tightens the moment of the piece before it, if it leaves less than that piece had so far.
@@ -24,10 +34,11 @@ fn tighten_one(
     moments: &mut [i32; 256],
 ) -> bool
     requires { ⌜ ToTightenOne k (now durations) (now befores) (now afters) (now moments) ⌝ }
-    ensures { λ r. ⌜ (r ≡ tighter (now (durations .entry)) (now (befores .entry)) (now (afters .entry)) (now (moments .entry)) k) × (now (moments .exit) ≡ tightenedAt (now (durations .entry)) (now (befores .entry)) (now (afters .entry)) (now (moments .entry)) k) ⌝ }
+    ensures { λ r. ⌜ OneTightened (now (durations .entry)) (now (befores .entry)) (now (afters .entry)) k
+        (now (moments .entry)) r (now (moments .exit)) ⌝ }
 {
     let b = befores[k] as usize;
-    let left = moments[afters[k] as usize] - takes_off(k, durations, afters);
+    let left = less(moments[afters[k] as usize], takes_off(k, durations, afters));
     if left < moments[b] {
         moments[b] = left;
         return true;
@@ -44,7 +55,8 @@ fn tighten(
     moments: &mut [i32; 256],
 ) -> bool
     requires { ⌜ ToTighten links (now durations) (now befores) (now afters) (now moments) ⌝ }
-    ensures { λ r. ⌜ (r ≡ anyTighter (now (durations .entry)) (now (befores .entry)) (now (afters .entry)) links (now (moments .entry))) × (now (moments .exit) ≡ tightened (now (durations .entry)) (now (befores .entry)) (now (afters .entry)) links (now (moments .entry))) ⌝ }
+    ensures { λ r. ⌜ AllTightened (now (durations .entry)) (now (befores .entry)) (now (afters .entry)) links
+        (now (moments .entry)) r (now (moments .exit)) ⌝ }
 {
     let mut changed = false;
     let mut k = links;
@@ -55,6 +67,18 @@ fn tighten(
         }
     }
     changed
+}
+
+// Each piece's own due, which is the latest moment of a piece with none after it.
+fn own_dues(pieces: usize, dues: &[u32; 256], moments: &mut [i32; 256])
+    requires { ⌜ ToLay pieces (now dues) (now moments) ⌝ }
+    ensures { λ r. ⌜ Laid pieces (now (dues .entry)) (now (moments .exit)) ⌝ }
+{
+    let mut i = 0;
+    while i < pieces {
+        moments[i] = dues[i] as i32;
+        i += 1;
+    }
 }
 
 // The latest moment of each piece.
@@ -68,7 +92,8 @@ pub fn latest_moments(
     moments: &mut [i32; 256],
 )
     requires { ⌜ ToTime pieces links (now durations) (now dues) (now befores) (now afters) (now moments) ⌝ }
-    ensures { λ r. ⌜ Timed pieces links (now (durations .entry)) (now (dues .entry)) (now (befores .entry)) (now (afters .entry)) (now (moments .exit)) ⌝ }
+    ensures { λ r. ⌜ Timed pieces links (now (durations .entry)) (now (dues .entry))
+        (now (befores .entry)) (now (afters .entry)) (now (moments .exit)) ⌝ }
 {
     own_dues(pieces, dues, moments);
     let mut round = 0;
@@ -77,17 +102,5 @@ pub fn latest_moments(
             return;
         }
         round += 1;
-    }
-}
-
-// Each piece's own due, which is the latest moment of a piece with none after it.
-fn own_dues(pieces: usize, dues: &[u32; 256], moments: &mut [i32; 256])
-    requires { ⌜ ToLay pieces (now dues) (now moments) ⌝ }
-    ensures { λ r. ⌜ Laid pieces (now (dues .entry)) (now (moments .exit)) ⌝ }
-{
-    let mut i = 0;
-    while i < pieces {
-        moments[i] = dues[i] as i32;
-        i += 1;
     }
 }

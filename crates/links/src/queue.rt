@@ -1,9 +1,10 @@
-// Pieces placed in a queue as soon as nothing is left that they wait for: `order[..placed]` holds them, `waits[j]` is what
-// piece j still waits for. Each link from a placed piece is passed once, along the piece's chain.
+// Pieces placed in a queue as soon as nothing is left that they wait for: `order[..placed]` holds them, `waits[j]` is
+// what piece j still waits for. Each link from a placed piece is passed once, along the piece's chain.
 ghost use Prim.Native.Nat.{_≤_};
 ghost use lib.ListN.{length};
 ghost use mathlib.Core.Path.{_≡_};
-ghost use Rattle.links.specs.Queue.{Queue, ToCount, CountedTo, ToPassOne, PassedOne, ToPass, PassedOn, ToPassAll, PassedAll};
+ghost use Rattle.links.specs.Queue.{Queue, ToCount, CountedTo};
+ghost use Rattle.links.specs.Queue.{ToPassOne, PassedOne, ToPass, PassedOn, ToPassAll, PassedAll};
 
 // How many links lead to each piece.
 pub fn count_into(afters: &[u16; 1024], count: usize, waits: &mut [u16; 256])
@@ -38,7 +39,8 @@ pub fn place_free(pieces: usize, waits: &[u16; 256], order: &mut [u16; 256]) -> 
 // One link to piece j is passed: it waits for one less, and is placed with the last.
 fn pass_one(j: usize, placed: usize, order: &mut [u16; 256], waits: &mut [u16; 256]) -> usize
     requires { ⌜ ToPassOne j placed (now order) (now waits) ⌝ }
-    ensures { λ r. ⌜ PassedOne j placed (now (order .entry)) (now (waits .entry)) r (now (order .exit)) (now (waits .exit)) ⌝ }
+    ensures { λ r. ⌜ PassedOne j placed (now (order .entry)) (now (waits .entry))
+        r (now (order .exit)) (now (waits .exit)) ⌝ }
 {
     let w = waits[j];
     if w == 0 {
@@ -63,7 +65,8 @@ pub fn pass_on(
     waits: &mut [u16; 256],
 ) -> usize
     requires { ⌜ ToPass i placed (now afters) (now last) (now prior) (now order) (now waits) ⌝ }
-    ensures { λ r. ⌜ PassedOn i placed (now (afters .entry)) (now (last .entry)) (now (prior .entry)) (now (order .entry)) (now (waits .entry)) r (now (order .exit)) (now (waits .exit)) ⌝ }
+    ensures { λ r. ⌜ PassedOn i placed (now (afters .entry)) (now (last .entry)) (now (prior .entry))
+        (now (order .entry)) (now (waits .entry)) r (now (order .exit)) (now (waits .exit)) ⌝ }
 {
     let mut placed = placed;
     let mut at = last[i] as usize;
@@ -85,7 +88,8 @@ pub fn pass_all(
     waits: &mut [u16; 256],
 ) -> usize
     requires { ⌜ ToPassAll placed (now afters) (now last) (now prior) (now order) (now waits) ⌝ }
-    ensures { λ r. ⌜ PassedAll placed (now (afters .entry)) (now (last .entry)) (now (prior .entry)) (now (order .entry)) (now (waits .entry)) r r (now (order .exit)) (now (waits .exit)) ⌝ }
+    ensures { λ r. ⌜ PassedAll placed (now (afters .entry)) (now (last .entry)) (now (prior .entry))
+        (now (order .entry)) (now (waits .entry)) r r (now (order .exit)) (now (waits .exit)) ⌝ }
 {
     let mut placed = placed;
     let mut head = 0;

@@ -2,13 +2,10 @@
 use Prim.Native.Nat.{_≤_, _-_}
 use mathlib.Core.Path.{_≡_}
 use native.Mathlib.Omega.{arith}
-use borrow.Author.Needs.{needs}
 use Rattle.links.specs.Moments.{Laid}
 use Rattle.links.proofs.Tightening.{laid-none, laid-more}
 use Rattle.links.proofs.moments.own_dues.Statement.{statement}
 use Rattle.links.proofs.moments.own_dues.Tie as tie
-use Rattle.links.proofs.moments.own_dues.Reads as reads
-use Rattle.links.proofs.moments.own_dues.Lts as lts
 
 abbrev Inv-loop : tie.InvT-loop
 Inv-loop pieces dues moments₀ i₀ moments i = (i ≤ pieces) × Laid i dues moments
@@ -26,7 +23,8 @@ element-copy-out-moments : tie.Need-element-copy-out-moments Inv-loop μ-loop
 element-copy-out-moments c = omega arith
 
 cast-moments : tie.Need-cast-moments Inv-loop μ-loop
-cast-moments c = record { sfits = omega (arith, c .before .before .before .pre .most (c .before .before .loop .i) (omega arith)) }
+cast-moments c =
+    record { sfits = omega (arith, c .before .before .before .pre .most (c .before .before .loop .i) (omega arith)) }
 
 mul-t11 : tie.Need-mul-t11 Inv-loop μ-loop
 mul-t11 c = omega arith
@@ -41,10 +39,14 @@ loop-less : tie.Need-loop-less Inv-loop μ-loop
 loop-less c = omega arith
 
 loop-again : tie.Need-loop-again Inv-loop μ-loop
-loop-again c = (omega arith, laid-more _ _ _ _ _ (c .before .before .before .pre) (omega arith) (c .before .before .loop .inv .1))
+loop-again c =
+    let l = c .before .before .loop in
+    (omega arith, laid-more _ _ _ _ _ (c .before .before .before .pre) (omega arith) (l .inv .1))
 
 returns : tie.Need-returns Inv-loop μ-loop
-returns c = let q : c .before .loop .i ≡ c .before .before .args .pieces = omega arith in rw (← q) (c .before .loop .inv .1)
+returns c =
+    let q : c .before .loop .i ≡ c .before .before .args .pieces = omega arith in
+    rw (← q) (c .before .loop .inv .1)
 
 pub own-dues-spec : {M : Type 1} → statement M
 own-dues-spec =

@@ -6,8 +6,6 @@ use mir.ValLaws.{toZ-pos}
 use Rattle.links.specs.Moments.{takesOffIn}
 use Rattle.links.proofs.moments.takes_off.Statement.{statement}
 use Rattle.links.proofs.moments.takes_off.Tie as tie
-use Rattle.links.proofs.moments.takes_off.Reads as reads
-use Rattle.links.proofs.moments.takes_off.Lts as lts
 
 mul-result : tie.Need-mul-result
 mul-result c = search needs

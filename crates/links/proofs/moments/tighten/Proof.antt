@@ -1,16 +1,12 @@
 -- `tighten` meets its contract: the links still to come, over the moments so far, make the whole round.
-use Prim.Native.Nat.{_-_}
-use mathlib.Core.Path.{_≡_}
 use native.Mathlib.Omega.{arith}
 use Rattle.links.proofs.Tightening.{Midst, midst-start, midst-tighter, midst-same, midst-end}
 use Rattle.links.proofs.moments.tighten.Statement.{statement}
 use Rattle.links.proofs.moments.tighten.Tie as tie
-use Rattle.links.proofs.moments.tighten.Reads as reads
-use Rattle.links.proofs.moments.tighten.Lts as lts
-use Rattle.links.proofs.moments.tighten_one.Reads as tighten-one-reads
 
 abbrev Inv-loop : tie.InvT-loop
-Inv-loop links durations befores afters moments₀ changed₀ k₀ moments changed k = Midst durations befores afters links k moments₀ moments changed
+Inv-loop links durations befores afters moments₀ changed₀ k₀ moments changed k =
+    Midst durations befores afters links k moments₀ moments changed
 
 abbrev μ-loop : tie.MeasureT-loop
 μ-loop links durations befores afters moments₀ changed₀ k₀ moments changed k = k
@@ -31,21 +27,19 @@ loop-less c = omega arith
 
 loop-again : tie.Need-loop-again Inv-loop μ-loop
 loop-again c =
-    midst-tighter _ _ _ _ _ _ _ _ (c .before .before .before .before .loop .inv) (omega arith) _
-    (c .before .tighten-one .ensures .1) _ (c .before .tighten-one .ensures .0) (c .if1 .taken)
+    midst-tighter _ _ _ _ _ _ _ _ (c .before .before .before .before .loop .inv) (omega arith) _ _
+    (c .before .tighten-one .ensures) (c .if1 .taken)
 
 loop-less-2 : tie.Need-loop-less-2 Inv-loop μ-loop
 loop-less-2 c = omega arith
 
 loop-again-2 : tie.Need-loop-again-2 Inv-loop μ-loop
 loop-again-2 c =
-    midst-same _ _ _ _ _ _ _ _ (c .before .before .before .before .loop .inv) (omega arith) _
-    (c .before .tighten-one .ensures .1) _ (c .before .tighten-one .ensures .0) (c .if1 .left)
+    midst-same _ _ _ _ _ _ _ _ (c .before .before .before .before .loop .inv) (omega arith) _ _
+    (c .before .tighten-one .ensures) (c .if1 .left)
 
 returns : tie.Need-returns Inv-loop μ-loop
-returns c =
-    let q : c .before .loop .k ≡ 0 = omega arith in
-    midst-end _ _ _ _ _ _ _ (rw q at (c .before .loop .inv))
+returns c = midst-end _ _ _ _ _ _ _ _ (c .before .loop .inv) (c .loop-test .left)
 
 pub tighten-spec : {M : Type 1} → statement M
 tighten-spec =

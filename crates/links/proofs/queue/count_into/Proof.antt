@@ -2,13 +2,10 @@
 use Prim.Native.Nat.{_≤_, _-_}
 use mathlib.Core.Path.{_≡_}
 use native.Mathlib.Omega.{arith}
-use borrow.Author.Needs.{needs}
 use Rattle.links.specs.Queue.{CountedTo}
 use Rattle.links.proofs.QueueLaws.{count-none, count-more, count-most}
 use Rattle.links.proofs.queue.count_into.Statement.{statement}
 use Rattle.links.proofs.queue.count_into.Tie as tie
-use Rattle.links.proofs.queue.count_into.Reads as reads
-use Rattle.links.proofs.queue.count_into.Lts as lts
 
 abbrev Inv-loop : tie.InvT-loop
 Inv-loop afters count waits₀ k₀ waits k = (k ≤ count) × CountedTo k afters waits
@@ -55,7 +52,9 @@ loop-again c =
     (omega arith, count-more _ _ _ (l .inv .1) (c .before .before .before .before .pre .small (l .k) (omega arith)))
 
 returns : tie.Need-returns Inv-loop μ-loop
-returns c = let q : c .before .loop .k ≡ c .before .before .args .count = omega arith in rw (← q) (c .before .loop .inv .1)
+returns c =
+    let q : c .before .loop .k ≡ c .before .before .args .count = omega arith in
+    rw (← q) (c .before .loop .inv .1)
 
 pub count-into-spec : {M : Type 1} → statement M
 count-into-spec =

@@ -1,20 +1,18 @@
--- `pass_all` meets its contract: the links from the pieces at the head of the queue are passed, one piece more each turn.
-use Prim.Native.Nat.{_<_, _≤_, suc, _-_}
+-- `pass_all` meets its contract: the links from the pieces at the head of the queue are passed, one piece more each
+-- turn.
+use Prim.Native.Nat.{_-_}
 use mathlib.Core.Path.{_≡_}
 use native.Mathlib.Numerals.{add-one}
 use native.Mathlib.Omega.{arith}
-use borrow.Author.Needs.{needs}
 use Rattle.links.specs.Queue.{PassedAll}
 use Rattle.links.proofs.QueueLaws.{queue-most}
 use Rattle.links.proofs.PassingLaws.{first-start, first-on}
 use Rattle.links.proofs.queue.pass_all.Statement.{statement}
 use Rattle.links.proofs.queue.pass_all.Tie as tie
-use Rattle.links.proofs.queue.pass_all.Reads as reads
-use Rattle.links.proofs.queue.pass_all.Lts as lts
-use Rattle.links.proofs.queue.pass_on.Reads as pass-on-reads
 
 abbrev Inv-loop : tie.InvT-loop
-Inv-loop placed afters last prior order₀ waits₀ placed₀ head₀ order waits placed' head = PassedAll placed afters last prior order₀ waits₀ head placed' order waits
+Inv-loop placed afters last prior order₀ waits₀ placed₀ head₀ order waits placed' head =
+    PassedAll placed afters last prior order₀ waits₀ head placed' order waits
 
 abbrev μ-loop : tie.MeasureT-loop
 μ-loop placed afters last prior order₀ waits₀ placed₀ head₀ order waits placed' head = 256 - head
@@ -38,15 +36,17 @@ cast-pass-on : tie.Need-cast-pass-on Inv-loop μ-loop
 cast-pass-on c =
     let p = c .before .before .before .pre in
     let f = c .before .before .loop .inv (p .net) (p .queue) in
-    omega (arith, f .passed .queue .inside (c .before .before .loop .head) (c .before .loop-test .taken), p .net .ties .few-pieces)
+    let one = f .passed .queue .inside (c .before .before .loop .head) (c .before .loop-test .taken) in
+    omega (arith, one, p .net .ties .few-pieces)
 
 pass-on-requires : tie.Need-pass-on-requires Inv-loop μ-loop
 pass-on-requires c κs =
     let p = c .before .before .before .before .before .pre in
-    let f = c .before .before .before .before .loop .inv (p .net) (p .queue) in
+    let l = c .before .before .before .before .loop in
+    let f = l .inv (p .net) (p .queue) in
     record {
       net = p .net;
-      one = f .passed .queue .inside (c .before .before .before .before .loop .head) (c .before .before .before .loop-test .taken);
+      one = f .passed .queue .inside (l .head) (c .before .before .before .loop-test .taken);
       queue = f .passed .queue;
     }
 
@@ -65,10 +65,11 @@ loop-less c =
 loop-again : tie.Need-loop-again Inv-loop μ-loop
 loop-again c =
     λ N Q.
-    let f = c .before .before .before .before .before .loop .inv N Q in
+    let l = c .before .before .before .before .before .loop in
+    let f = l .inv N Q in
     let on = c .before .before .before .before .loop-test .taken in
     rw add-one (first-on _ _ _ _ _ _ _ _ _ _ _ f on _ _ _
-    (c .pass-on .ensures N (f .passed .queue .inside (c .before .before .before .before .before .loop .head) on) (f .passed .queue)))
+    (c .pass-on .ensures N (f .passed .queue .inside (l .head) on) (f .passed .queue)))
 
 returns : tie.Need-returns Inv-loop μ-loop
 returns c =

@@ -1,15 +1,11 @@
 -- `pass_on` meets its contract: what the links further along the chain still take off makes the whole of it.
-use Prim.Native.Nat.{_<_, _≤_, suc, _-_}
+use Prim.Native.Nat.{_<_}
 use mathlib.Core.Path.{_≡_}
 use native.Mathlib.Omega.{arith}
-use borrow.Author.Needs.{needs}
 use Rattle.links.specs.Queue.{Queue, Net}
-use Rattle.links.proofs.PassingLaws.{Walking, walk-start, walk-place, walk-link, walk-falls, walk-on, walk-end}
+use Rattle.links.proofs.PassingLaws.{Walking, walk-start, walk-link, walk-falls, walk-on, walk-end}
 use Rattle.links.proofs.queue.pass_on.Statement.{statement}
 use Rattle.links.proofs.queue.pass_on.Tie as tie
-use Rattle.links.proofs.queue.pass_on.Reads as reads
-use Rattle.links.proofs.queue.pass_on.Lts as lts
-use Rattle.links.proofs.queue.pass_one.Reads as pass-one-reads
 
 abbrev Inv-loop : tie.InvT-loop
 Inv-loop i placed afters last prior order₀ waits₀ placed₀ at₀ order waits placed' at =
@@ -26,7 +22,10 @@ element-copy-out-at : tie.Need-element-copy-out-at Inv-loop μ-loop
 element-copy-out-at c = omega (arith, c .pre .one, c .pre .net .ties .few-pieces)
 
 cast-at : tie.Need-cast-at Inv-loop μ-loop
-cast-at c = let p = c .before .pre in omega (arith, walk-start _ _ _ (p .net) _ _ _ _ (p .one) (p .queue) .place, p .net .ties .few-links)
+cast-at c =
+    let p = c .before .pre in
+    let w = walk-start _ _ _ (p .net) _ _ _ _ (p .one) (p .queue) in
+    omega (arith, w .place, p .net .ties .few-links)
 
 loop-holds : tie.Need-loop-holds Inv-loop μ-loop
 loop-holds c = λ N one Q. walk-start _ _ _ N _ _ _ _ one Q
@@ -64,12 +63,14 @@ pass-one-requires c κs =
 mul-at-2 : tie.Need-mul-at-2 Inv-loop μ-loop
 mul-at-2 c =
     let p = c .before .before .before .before .before .before .before .pre in
-    omega (arith, c .before .before .before .before .before .loop .inv (p .net) (p .one) (p .queue) .place, p .net .ties .few-links)
+    let w = c .before .before .before .before .before .loop .inv (p .net) (p .one) (p .queue) in
+    omega (arith, w .place, p .net .ties .few-links)
 
 element-copy-out-at-2 : tie.Need-element-copy-out-at-2 Inv-loop μ-loop
 element-copy-out-at-2 c =
     let p = c .before .before .before .before .before .before .before .pre in
-    omega (arith, c .before .before .before .before .before .loop .inv (p .net) (p .one) (p .queue) .place, p .net .ties .few-links)
+    let w = c .before .before .before .before .before .loop .inv (p .net) (p .one) (p .queue) in
+    omega (arith, w .place, p .net .ties .few-links)
 
 cast-at-2 : tie.Need-cast-at-2 Inv-loop μ-loop
 cast-at-2 c =

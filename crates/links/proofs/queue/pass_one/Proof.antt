@@ -2,11 +2,9 @@
 use native.Mathlib.Numerals.{add-one}
 use native.Mathlib.Omega.{arith}
 use borrow.Author.Needs.{needs}
-use Rattle.links.proofs.QueueLaws.{passed-idle, passed-waiting, passed-last, passed-room}
+use Rattle.links.proofs.QueueLaws.{passed-idle, passed-waiting, passed-last, room-for-one}
 use Rattle.links.proofs.queue.pass_one.Statement.{statement}
 use Rattle.links.proofs.queue.pass_one.Tie as tie
-use Rattle.links.proofs.queue.pass_one.Reads as reads
-use Rattle.links.proofs.queue.pass_one.Lts as lts
 
 mul-w : tie.Need-mul-w
 mul-w c = search needs
@@ -30,13 +28,13 @@ cast-order : tie.Need-cast-order
 cast-order c = search needs
 
 mul-order : tie.Need-mul-order
-mul-order c = let p = c .before .before .before .pre in omega (arith, p .few, passed-room _ _ _ _ _ (p .queue) (p .one) (p .few) (c .if2 .taken))
+mul-order c = omega (arith, room-for-one _ _ _ _ (c .before .before .before .pre) (c .if2 .taken))
 
 element-write-order : tie.Need-element-write-order
-element-write-order c = let p = c .before .before .before .pre in omega (arith, p .few, passed-room _ _ _ _ _ (p .queue) (p .one) (p .few) (c .if2 .taken))
+element-write-order c = room-for-one _ _ _ _ (c .before .before .before .pre) (c .if2 .taken)
 
 add-result : tie.Need-add-result
-add-result c = let p = c .before .before .before .pre in omega (arith, p .few, passed-room _ _ _ _ _ (p .queue) (p .one) (p .few) (c .if2 .taken))
+add-result c = omega (arith, room-for-one _ _ _ _ (c .before .before .before .pre) (c .if2 .taken))
 
 returns-2 : tie.Need-returns-2
 returns-2 c = λ n few one Q. rw add-one (passed-last n _ _ _ _ Q one few (c .if2 .taken))

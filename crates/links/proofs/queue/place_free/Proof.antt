@@ -9,8 +9,6 @@ use Rattle.links.specs.Queue.{Queue}
 use Rattle.links.proofs.QueueLaws.{queue-none, queue-most, queue-free, queue-waiting}
 use Rattle.links.proofs.queue.place_free.Statement.{statement}
 use Rattle.links.proofs.queue.place_free.Tie as tie
-use Rattle.links.proofs.queue.place_free.Reads as reads
-use Rattle.links.proofs.queue.place_free.Lts as lts
 
 abbrev Inv-loop : tie.InvT-loop
 Inv-loop pieces waits order₀ placed₀ i₀ order placed i = (i ≤ pieces) × Queue i placed order waits
@@ -56,7 +54,9 @@ loop-again c =
     )
 
 returns : tie.Need-returns Inv-loop μ-loop
-returns c = let q : c .before .loop .i ≡ c .before .before .args .pieces = omega arith in rw (← q) (c .before .loop .inv .1)
+returns c =
+    let q : c .before .loop .i ≡ c .before .before .args .pieces = omega arith in
+    rw (← q) (c .before .loop .inv .1)
 
 pub place-free-spec : {M : Type 1} → statement M
 place-free-spec =

@@ -3,17 +3,12 @@ use Prim.Native.Nat.{ℕ, _<_, _≤_}
 use mathlib.Core.List.{List}
 use mathlib.Core.Path.{_≡_, refl}
 use native.Mathlib.Omega.{arith}
-use borrow.Author.Needs.{needs}
 use lib.ListN.{length, getD, replicate, getD-replicate}
 use Rattle.links.specs.Queue.{Queue}
 use Rattle.links.proofs.QueueLaws.{queue-ones}
-use Rattle.links.proofs.RingLaws.{placed-via}
+use Rattle.links.proofs.Placing.{placed-via}
 use Rattle.links.proofs.rings.leads_back.Statement.{statement}
 use Rattle.links.proofs.rings.leads_back.Tie as tie
-use Rattle.links.proofs.rings.leads_back.Reads as reads
-use Rattle.links.proofs.rings.leads_back.Lts as lts
-use Rattle.links.proofs.queue.pass_all.Reads as pass-all-reads
-use Rattle.links.proofs.queue.pass_on.Reads as pass-on-reads
 
 -- Each piece waits for one link.
 ones : (n : ℕ) → n ≤ 256 → (i : ℕ) → i < n → _≡_ {A = ℕ} (getD (replicate 256 1) i 0) 1
@@ -30,16 +25,21 @@ pass-on-requires c κs =
 pass-all-requires : tie.Need-pass-all-requires
 pass-all-requires c κs =
     let p = c .before .before .before .before .before .pre in
+    let wait = all-wait (p .net .pieces) (p .net .ties .few-pieces) _ (p .sized) in
     record {
       net = p .net;
-      queue = c .before .before .pass-on .ensures (p .net) (p .one) (all-wait (p .net .pieces) (p .net .ties .few-pieces) _ (p .sized)) .queue;
+      queue = c .before .before .pass-on .ensures (p .net) (p .one) wait .queue;
     }
 
 mul-result : tie.Need-mul-result
-mul-result c = let p = c .before .before .before .before .before .before .pre in omega (arith, p .one, p .net .ties .few-pieces)
+mul-result c =
+    let p = c .before .before .before .before .before .before .pre in
+    omega (arith, p .one, p .net .ties .few-pieces)
 
 array-read-result : tie.Need-array-read-result
-array-read-result c = let p = c .before .before .before .before .before .before .pre in omega (arith, p .one, p .net .ties .few-pieces)
+array-read-result c =
+    let p = c .before .before .before .before .before .before .pre in
+    omega (arith, p .one, p .net .ties .few-pieces)
 
 returns : tie.Need-returns
 returns c =
@@ -51,7 +51,8 @@ returns c =
       answer = λ N one.
           let few = N .ties .few-pieces in
           let P = c .before .before .before .pass-on .ensures N one (all-wait (N .pieces) few _ (p .sized)) in
-          placed-via _ _ _ _ (N .ties) _ _ _ (ones (N .pieces) few) _ _ _ P _ _ _ (c .pass-all .ensures N (P .queue)) one;
+          let F = c .pass-all .ensures N (P .queue) in
+          placed-via _ _ _ _ (N .ties) _ _ _ (ones (N .pieces) few) _ _ _ P _ _ _ F one;
     }
 
 pub leads-back-spec : {M : Type 1} → statement M

@@ -11,9 +11,6 @@ use Rattle.links.specs.Rings.{netFollows}
 use Rattle.links.proofs.RingLaws.{ring-near, ring-here, ring-further}
 use Rattle.links.proofs.rings.lowest_on_ring.Statement.{statement}
 use Rattle.links.proofs.rings.lowest_on_ring.Tie as tie
-use Rattle.links.proofs.rings.lowest_on_ring.Reads as reads
-use Rattle.links.proofs.rings.lowest_on_ring.Lts as lts
-use Rattle.links.proofs.rings.leads_back.Reads as leads-back-reads
 
 abbrev Inv-loop : tie.InvT-loop
 Inv-loop afters last prior order₀ i₀ order i =
