@@ -1,20 +1,20 @@
 -- The runs of a desk are those that grow with its slots, one slot after another; and over a stretch in which a desk keeps
 -- its choice they grow by one step.
-use Prim.Native.Nat.{ℕ, zero, suc, _+_, _-_, _≤_, _<_}
-use mathlib.Core.Bool.{Bool, true, false, _&&_}
+use Prim.Native.Nat.{ℕ, zero, suc, _+_, _<_}
+use mathlib.Core.Bool.{true, false}
 use mathlib.Core.List.{List, [], _∷_, _++_, map, append-assoc, append-nil}
 use mathlib.Core.Option.{Option, none, some}
 use mathlib.Core.Path.{_≡_, refl, sym, ap, _∙_}
 use native.Mathlib.Omega.{arith}
-use borrow.Author.Tests.{eqb-true, eqb-false, eq-eqb, ne-eqb}
+use borrow.Author.Tests.{eqb-true, eq-eqb, ne-eqb}
 use lib.Dec.{eqb}
-use Rattle.rules.specs.Words.{when, keep, row, below}
+use Rattle.rules.specs.Words.{when, row, below}
 use Rattle.rules.specs.Job.{Job}
 use Rattle.rules.specs.Urgency.{worked, horizon}
 use Rattle.rules.specs.Runs.{Turn, Run, newRun, longerRun, closing, goesOn, nextRun, runsFrom, turns, runs}
 use Rattle.laws.proofs.Words.{by-test, and-true}
 use Rattle.laws.proofs.Slots.{by-choice}
-use Rattle.slots.specs.Growth.{goesOnAt, freshRun, longer, grown, afterTurn, runsUntil, lastPiece, lastEnd, lastOn}
+use Rattle.slots.specs.Growth.{goesOnAt, freshRun, longer, grown, afterTurn, runsUntil}
 use Rattle.slots.proofs.Seams.{all-open}
 
 -- Only the last run of a list can grow.
@@ -124,7 +124,8 @@ module _ (w : ℕ → Option ℕ) where
         → A ++ runsFrom (some r) (map turn (row t n)) ≡ grownOver (A ++ (r ∷ [])) t n
     under-way-grown zero t A r e = refl
     under-way-grown (suc n) t A r e = by-choice (w t)
-        (λ q. rw q (sym (append-assoc A (r ∷ []) _) ∙ closed-grown n (suc t) (A ++ (r ∷ [])) (over-last A r (suc t) (omega arith))))
+        (λ q. rw q (sym (append-assoc A (r ∷ []) _) ∙ closed-grown n (suc t) (A ++ (r ∷ []))
+        (over-last A r (suc t) (omega arith))))
         (λ i q. by-test (eqb (r .piece) i)
         (λ a. rw (q, a, grown-on A r i t 1 (eqb-true _ i a) e, e, when)
         (under-way-grown n (suc t) A (longerRun r t) (omega arith)))

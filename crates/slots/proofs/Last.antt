@@ -1,26 +1,24 @@
 -- Who a desk worked on last. Unless that piece is finished it is waiting still, and the desk leaves it only for a piece
 -- that was never worked on: an interruption is always by a piece that is begun with it.
-use Prim.Native.Nat.{ℕ, zero, suc, _+_, _-_, _≤_, _<_}
-use mathlib.Core.Bool.{Bool, true, false, not, _&&_}
-use mathlib.Core.List.{List, [], _∷_, _++_, List·Memᴰ as Mem}
-use mathlib.Core.Option.{Option, none, some}
+use Prim.Native.Nat.{ℕ, zero, suc, _+_, _<_}
+use mathlib.Core.Bool.{true}
+use mathlib.Core.List.{List, [], _∷_, _++_}
+use mathlib.Core.Option.{none, some}
 use mathlib.Core.Path.{_≡_, refl, sym, ap, _∙_}
 use native.Mathlib.Omega.{arith}
 use borrow.Author.Tests.{ltb-true, ltb-false}
 use lib.Dec.{ltb}
-use Rattle.rules.specs.Words.{when}
-use Rattle.rules.specs.Job.{Job, pieceCount, piece, desk, duration, linksInto}
-use Rattle.rules.specs.Moments.{delay, sooner}
-use Rattle.rules.specs.Urgency.{progress, isReady, workAt, worked, workedOn}
+use Rattle.rules.specs.Job.{Job, pieceCount, piece, desk, duration}
+use Rattle.rules.specs.Moments.{sooner}
+use Rattle.rules.specs.Urgency.{isReady, workAt, worked}
 use Rattle.rules.specs.Runs.{Run}
 use Rattle.rules.specs.Tables.{Sound}
-use Rattle.rules.specs.declared.Link.{Link}
 use Rattle.laws.proofs.Words.{by-test, true-or-false}
 use Rattle.laws.proofs.Sound.{into-link, link-fit}
 use Rattle.laws.proofs.Hours.{always-open}
 use Rattle.laws.proofs.Progress.{left-falls, left-whole, finished-for-good}
 use Rattle.laws.proofs.Order.{sooner-asym}
-use Rattle.laws.proofs.Slots.{Waits, Chosen, by-choice, choice-none, worked-chosen, ready-release, ready-before, ready-intro, handed-fact, fact-handed, work-start, work-on, work-off, by-work, none-or-some, some-inj}
+use Rattle.laws.proofs.Slots.{Waits, by-choice, choice-none, worked-chosen, ready-release, ready-before, ready-intro, handed-fact, fact-handed, work-start, work-off, by-work, none-or-some, some-inj}
 use Rattle.slots.specs.Stretch.{at}
 use Rattle.slots.specs.Growth.{goesOnAt, freshRun, longer, grown, afterTurn, runsUntil, lastPiece, lastEnd, lastOn}
 use Rattle.slots.proofs.Growth.{by-last, goes-on, grown-on, grown-anew}
@@ -40,7 +38,8 @@ last-end (x ∷ y ∷ A) r = last-end (y ∷ A) r
 -- The runs that have grown by slots on a piece end with a run of it, at the end of those slots.
 pub grown-ends : (A : List Run) (i t k : ℕ) → (lastPiece (grown A i t k) ≡ some i) × (lastEnd (grown A i t k) ≡ t + k)
 unfolding grown lastPiece lastEnd
-grown-ends A i t k = by-last (λ l. (lastPiece (grown l i t k) ≡ some i) × (lastEnd (grown l i t k) ≡ t + k)) A (refl, refl) more
+grown-ends A i t k = by-last (λ l. (lastPiece (grown l i t k) ≡ some i) × (lastEnd (grown l i t k) ≡ t + k)) A
+    (refl, refl) more
   where
     more : (B : List Run) (r : Run)
         → (lastPiece (grown (B ++ (r ∷ [])) i t k) ≡ some i) × (lastEnd (grown (B ++ (r ∷ [])) i t k) ≡ t + k)
@@ -159,5 +158,6 @@ module _ (J : Job) where
         by-test (ltb (at J t i .left) (duration J i))
         (λ b. true-or-false
         (sym (c .first j (u .waits) (λ z. ne (sym z)))
-        ∙ sooner-asym J j i (u .first i (c .waits .inside) (c .waits .on-desk) ne (ltb-true _ _ b) (c .waits .unfinished))))
+        ∙ sooner-asym J j i (u .first i (c .waits .inside) (c .waits .on-desk) ne (ltb-true _ _ b)
+        (c .waits .unfinished))))
         (λ b. omega (arith, ltb-false (at J t i .left) (duration J i) b, left-whole J t i (c .waits .inside)))

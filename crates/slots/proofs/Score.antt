@@ -2,20 +2,19 @@
 -- piece stands for at most two runs. `score` counts them for each piece.
 use Prim.Native.Nat.{ℕ, zero, suc, _+_, _-_, _≤_, _<_}
 use mathlib.Core.Bool.{Bool, true, false, not, _&&_}
-use mathlib.Core.List.{List, [], _∷_, map}
-use mathlib.Core.Option.{Option, none, some}
+use mathlib.Core.Option.{some}
 use mathlib.Core.Path.{_≡_, refl, sym, ap, _∙_}
 use native.Mathlib.Omega.{arith}
-use borrow.Author.Tests.{ltb-true, ltb-false, lt-ltb, le-ltb, eqb-true, eqb-false, eq-eqb, ne-eqb}
+use borrow.Author.Tests.{ltb-true, lt-ltb, le-ltb, eqb-true, eqb-false, eq-eqb, ne-eqb}
 use lib.Dec.{ltb, eqb}
-use Rattle.rules.specs.Words.{when, isIt, below, sum}
-use Rattle.rules.specs.Job.{Job, pieceCount, piece, desk, duration}
-use Rattle.rules.specs.Urgency.{progress, workAt, worked, workedOn}
+use Rattle.rules.specs.Words.{when, isIt}
+use Rattle.rules.specs.Job.{Job, pieceCount, desk, duration}
+use Rattle.rules.specs.Urgency.{worked, workedOn}
 use Rattle.rules.specs.Tables.{Sound}
-use Rattle.laws.proofs.Words.{by-test, true-or-false, and-true, and-intro, when-true, when-false, sum-le, sum-lt, mem-below, below-mem}
+use Rattle.laws.proofs.Words.{by-test, and-true, and-intro}
 use Rattle.laws.proofs.Progress.{left-falls}
 use Rattle.laws.proofs.Sound.{fits}
-use Rattle.laws.proofs.Slots.{by-choice, isIt-true, it-is, isIt-false, not-it, worked-chosen, work-on, none-or-some, some-inj}
+use Rattle.laws.proofs.Slots.{by-choice, it-is, not-it, worked-chosen, work-on, some-inj}
 use Rattle.slots.specs.Stretch.{at}
 use Rattle.slots.specs.Growth.{lastOn, score}
 use Rattle.slots.proofs.Last.{last-worked, last-rested, last-inside, untouched-yet, leaves-for-new}
@@ -127,7 +126,8 @@ module _ (J : Job) where
         (i, w .inside, w .on-desk, omega arith)
 
     -- .. or it was finished before.
-    old-rises : (d t i j : ℕ) → worked J d t ≡ some i → lastOn J d t ≡ some j → (i ≡ j → ⊥) → at J t j .left ≡ 0 → Rises d t
+    old-rises : (d t i j : ℕ) → worked J d t ≡ some i → lastOn J d t ≡ some j → (i ≡ j → ⊥) → at J t j .left ≡ 0
+        → Rises d t
     old-rises d t i j e l ne f =
         let w = last-inside J d t j l in
         let q : desk J j ≡ d = w .1 in

@@ -1,10 +1,9 @@
 -- Laws of the names that later rules change: the hours of a desk, the delay of a link and the order of urgency. What is
 -- proved of stretches of slots uses these names through these laws, and through those of the crate `laws`, alone.
-use Prim.Native.Nat.{ℕ, zero, suc, _+_, _≤_, _<_}
-use mathlib.Core.Bool.{Bool, true, false}
-use mathlib.Core.List.{List, [], _∷_}
+use Prim.Native.Nat.{ℕ, zero, suc, _<_}
+use mathlib.Core.Bool.{true}
+use mathlib.Core.List.{_∷_}
 use mathlib.Core.Path.{_≡_, refl, ap}
-use native.Mathlib.Omega.{arith}
 use borrow.Author.Tests.{lt-ltb}
 use lib.Dec.{eqb}
 use lib.Signed.{ltZ}
@@ -13,7 +12,7 @@ use Rattle.rules.specs.Job.{Job, desk}
 use Rattle.rules.specs.Hours.{isOpen}
 use Rattle.rules.specs.Moments.{delay, latest, sooner}
 use Rattle.rules.specs.declared.Link.{Link}
-use Rattle.laws.proofs.Signed.{up, dn, _≼_, le-leZ}
+use Rattle.laws.proofs.Signed.{_≼_, le-leZ}
 use Rattle.laws.proofs.Words.{or-right, and-intro}
 
 -- Every desk is open in every slot of a row.

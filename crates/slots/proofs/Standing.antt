@@ -1,18 +1,18 @@
--- A piece is ready at a moment exactly if it waits for no unfinished piece and its ready moment has come; and what a piece
--- waits for changes by one piece's links when one piece is finished.
+-- A piece is ready at a moment exactly if it waits for no unfinished piece and its ready moment has come; and what a
+-- piece waits for changes by one piece's links when one piece is finished.
 use Prim.Native.Nat.{ℕ, _+_, _≤_, _<_, max}
-use mathlib.Core.Bool.{Bool, true, false, not, _&&_}
+use mathlib.Core.Bool.{true, false, not, _&&_}
 use mathlib.Core.List.{List, [], _∷_, List·Memᴰ as Mem, List·Memᴰ·head as here, List·Memᴰ·tail as there}
-use mathlib.Core.Path.{_≡_, refl, sym, ap, _∙_}
+use mathlib.Core.Path.{_≡_, refl}
 use native.Mathlib.Omega.{arith}
-use borrow.Author.Tests.{eqb-true, eqb-false, eq-eqb, ne-eqb, leb-true}
-use lib.Dec.{leb, eqb}
+use borrow.Author.Tests.{eqb-true, eqb-false, eq-eqb, ne-eqb}
+use lib.Dec.{eqb}
 use Rattle.rules.specs.Words.{when}
-use Rattle.rules.specs.Job.{Job, piece, linksInto}
+use Rattle.rules.specs.Job.{Job, piece}
 use Rattle.rules.specs.Moments.{delay}
 use Rattle.rules.specs.Urgency.{Progress, progress, isReady}
 use Rattle.rules.specs.declared.Link.{Link}
-use Rattle.laws.proofs.Words.{by-test, on-tail, and-intro}
+use Rattle.laws.proofs.Words.{by-test}
 use Rattle.laws.proofs.Sound.{into-link, link-into}
 use Rattle.laws.proofs.Slots.{ready-release, ready-before, ready-intro, handed-fact, fact-handed}
 use Rattle.slots.specs.Standing.{done, waitsFor, asks, readyBy, waitsOf, readyOf, linksTo, askedBy, linksAt}
@@ -54,7 +54,8 @@ module _ (J : Job) (P : ℕ → Progress) (i : ℕ) where
   first-in first (l ∷ ls) = let ih : first ≤ readyBy J P i first ls = first-in first ls in omega arith
 
   -- What one link into piece i says of the counts it is a part of.
-  link-settled : (t : ℕ) (l : Link) → l .after ≡ i → _≡_ {A = ℕ} (when (eqb (l .after) i && not (done P (l .before))) 1 0) 0
+  link-settled : (t : ℕ) (l : Link) → l .after ≡ i
+      → _≡_ {A = ℕ} (when (eqb (l .after) i && not (done P (l .before))) 1 0) 0
       → asks J P i l ≤ t → (P (l .before) .left ≡ 0) × (P (l .before) .finish + delay J l ≤ t)
   unfolding asks when
   link-settled t l e w r =
@@ -109,7 +110,11 @@ module _ (J : Job) (P Q : ℕ → Progress) (i : ℕ) where
   unfolding readyBy
   alike-ready first [] h f = refl
   alike-ready first (l ∷ ls) h f =
-      rw (asks-alike l (h l (here refl)) (f l (here refl)), alike-ready first ls (λ k m. h k (there m)) (λ k m. f k (there m)))
+      rw (
+        asks-alike l (h l (here refl)) (f l (here refl)),
+        alike-ready first ls (λ k m. h k (there m))
+            (λ k m. f k (there m)),
+      )
 
 -- Piece p, unfinished in P, is finished at moment c in Q, and no other piece differs.
 module _ (J : Job) (P Q : ℕ → Progress) (p c : ℕ) (was : done P p ≡ false) (is : Q p .left ≡ 0) (at : Q p .finish ≡ c)
@@ -125,7 +130,8 @@ module _ (J : Job) (P Q : ℕ → Progress) (p c : ℕ) (was : done P p ≡ fals
       (λ b. let e : P (l .before) ≡ Q (l .before) = others (l .before) (eqb-false _ p b) in
       rw (b, e, when) (omega arith))
 
-  one-asks : (l : Link) → asks J Q i l ≡ max (asks J P i l) (when (eqb (l .before) p && eqb (l .after) i) (c + delay J l) 0)
+  one-asks : (l : Link)
+      → asks J Q i l ≡ max (asks J P i l) (when (eqb (l .before) p && eqb (l .after) i) (c + delay J l) 0)
   unfolding asks when
   one-asks l = by-test (eqb (l .before) p)
       (λ b. let e : l .before ≡ p = eqb-true _ p b in
@@ -151,7 +157,8 @@ module _ (J : Job) (P Q : ℕ → Progress) (p c : ℕ) (was : done P p ≡ fals
 
 -- No piece is finished yet: a piece waits for all links into it, and only its release holds it back.
 module _ (J : Job) (P : ℕ → Progress) (i : ℕ) where
-  pub fresh-waits : (ls : List Link) → ((l : Link) → Mem l ls → done P (l .before) ≡ false) → waitsFor P i ls ≡ linksAt i ls
+  pub fresh-waits : (ls : List Link) → ((l : Link) → Mem l ls → done P (l .before) ≡ false)
+      → waitsFor P i ls ≡ linksAt i ls
   unfolding waitsFor linksAt
   fresh-waits [] h = refl
   fresh-waits (l ∷ ls) h =

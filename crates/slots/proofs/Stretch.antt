@@ -1,24 +1,21 @@
 -- k slots at once are k single slots: over a stretch in which nothing is decided every desk keeps its choice, the pieces
 -- worked on are k slots further at its end, and the others are where they were.
 use Prim.Native.Nat.{ℕ, zero, suc, _+_, _-_, _≤_, _<_}
-use mathlib.Core.Bool.{Bool, true, false, not, _&&_}
-use mathlib.Core.List.{List, [], _∷_, List·Memᴰ as Mem}
-use mathlib.Core.Option.{Option, none, some}
-use mathlib.Core.Path.{_≡_, refl, sym, ap, _∙_}
+use mathlib.Core.Bool.{false}
+use mathlib.Core.Option.{some}
+use mathlib.Core.Path.{_≡_, sym, ap, _∙_}
 use native.Mathlib.Omega.{arith}
-use borrow.Author.Tests.{eqb-true, eqb-false, eq-eqb, ne-eqb, ltb-true, ltb-false}
-use lib.Dec.{leb, ltb, eqb}
-use Rattle.rules.specs.Words.{when}
+use borrow.Author.Tests.{ne-eqb, ltb-true, ltb-false}
+use lib.Dec.{ltb, eqb}
 use Rattle.rules.specs.Job.{Job, pieceCount, piece, desk, duration}
-use Rattle.rules.specs.Urgency.{Progress, progress, workedOn, workAt, worked, choice}
+use Rattle.rules.specs.Urgency.{workedOn, workAt, worked, choice}
 use Rattle.rules.specs.Tables.{Sound}
-use Rattle.rules.specs.declared.Link.{Link}
-use Rattle.laws.proofs.Words.{by-test, true-or-false}
+use Rattle.laws.proofs.Words.{by-test}
 use Rattle.laws.proofs.Hours.{always-open}
 use Rattle.laws.proofs.Progress.{left-whole, finished-for-good}
 use Rattle.laws.proofs.Sound.{link-fit}
-use Rattle.laws.proofs.Slots.{Waits, Chosen, by-choice, choice-some, choice-none, chosen-choice, resting-choice, worked-chosen, work-start, work-on, work-off, by-work, none-or-some, some-inj}
-use Rattle.slots.specs.Standing.{done, waitsFor, readyBy, waitsOf, readyOf}
+use Rattle.laws.proofs.Slots.{Waits, by-choice, choice-some, choice-none, chosen-choice, resting-choice, work-on, work-off, by-work}
+use Rattle.slots.specs.Standing.{done, waitsOf, readyOf}
 use Rattle.slots.specs.Stretch.{at, Stretch, workedFor}
 use Rattle.slots.proofs.Standing.{left-undone, undone-left, ready-waits, waits-ready, alike-waits, alike-ready}
 

@@ -1,8 +1,8 @@
 -- The tables before the first slot hold the plan at moment 0.
-use Prim.Native.Nat.{ℕ, zero, suc, _+_, _≤_, _<_}
-use mathlib.Core.Bool.{true, false}
+use Prim.Native.Nat.{ℕ, zero, suc, _+_, _<_}
+use mathlib.Core.Bool.{false}
 use mathlib.Core.List.{List, [], _∷_, _++_, map, map-append, List·Memᴰ as Mem}
-use mathlib.Core.Logic.{_⊎_, inl, inr}
+use mathlib.Core.Logic.{inl}
 use mathlib.Core.Path.{_≡_, refl, sym, ap, _∙_}
 use native.Mathlib.Omega.{arith}
 use lib.Dec.{eqb}
@@ -10,16 +10,15 @@ use lib.ListN.{length, getD}
 use Rattle.rules.specs.Words.{when, below}
 use Rattle.rules.specs.Job.{Job, pieceCount, piece, duration}
 use Rattle.rules.specs.Tables.{Sound, linkIn}
-use Rattle.rules.specs.Urgency.{Progress, untouched}
 use Rattle.rules.specs.declared.Link.{Link}
 use Rattle.laws.proofs.Slots.{work-start}
 use Rattle.laws.proofs.Sound.{fits, link-fit}
 use Rattle.slots.specs.Growth.{runsUntil}
-use Rattle.slots.specs.Standing.{done, waitsFor, readyBy, waitsOf, readyOf, linksAt}
+use Rattle.slots.specs.Standing.{done, waitsOf, readyOf, linksAt}
 use Rattle.slots.specs.Stretch.{at}
 use Rattle.slots.proofs.Standing.{left-undone, fresh-waits, fresh-ready}
 use Rattle.steps.specs.Handover.{intoOf, Waiting}
-use Rattle.steps.specs.Log.{Log, loggedRuns}
+use Rattle.steps.specs.Log.{Log}
 use Rattle.steps.specs.Work.{Work}
 use Rattle.steps.proofs.LinkStep.{WaitHeld}
 use Rattle.steps.proofs.LogHeld.{LastRun, LogHeld}
@@ -34,7 +33,8 @@ at-more i [] l = omega arith
 at-more i (x ∷ ls) l =
     let ih : linksAt i (ls ++ (l ∷ [])) ≡ linksAt i ls + when (eqb (l .after) i) 1 0 = at-more i ls l in omega arith
 
-into-links : (befores afters handovers : List ℕ) (i m : ℕ) → intoOf afters i m ≡ linksAt i (map (linkIn befores afters handovers) (below m))
+into-links : (befores afters handovers : List ℕ) (i m : ℕ)
+    → intoOf afters i m ≡ linksAt i (map (linkIn befores afters handovers) (below m))
 unfolding intoOf linksAt below linkIn
 into-links befores afters handovers i zero = refl
 into-links befores afters handovers i (suc m) =
@@ -62,9 +62,15 @@ module _ (J : Job) (sound : Sound J) (n : ℕ) (count : pieceCount J ≡ n) wher
   none-done : (k : Link) → Mem k (J .links) → done (at J 0) (k .before) ≡ false
   none-done k m =
       left-undone (at J 0) (k .before)
-      (omega (arith, ap (λ p. p .left) (work-start J (k .before)), fits J sound (k .before) (link-fit J sound k m .before-one) .duration-least))
+      (omega (
+        arith,
+        ap (λ p. p .left) (work-start J (k .before)),
+        fits J sound (k .before)
+            (link-fit J sound k m .before-one) .duration-least,
+      ))
 
-  pub begun-waits : (m : ℕ) (releases befores afters handovers : List ℕ) → ((i : ℕ) → i < n → piece J i .release ≡ getD releases i 0)
+  pub begun-waits : (m : ℕ) (releases befores afters handovers : List ℕ)
+      → ((i : ℕ) → i < n → piece J i .release ≡ getD releases i 0)
       → J .links ≡ map (linkIn befores afters handovers) (below m) → (s : Waiting)
       → length (s .waits) ≡ 256 → length (s .ready) ≡ 256 → ((i : ℕ) → i < n → getD (s .waits) i 0 ≡ intoOf afters i m)
       → ((i : ℕ) → i < n → getD (s .ready) i 0 ≡ getD releases i 0) → WaitHeld J n (at J 0) s

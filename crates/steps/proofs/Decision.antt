@@ -1,26 +1,25 @@
 -- The choice over the tables is that of the plan: where the tables say how far the pieces are at moment t, every desk
 -- chooses whom it works on in slot t.
-use Prim.Native.Nat.{ℕ, zero, suc, _+_, _≤_, _<_}
+use Prim.Native.Nat.{ℕ, zero, suc, _≤_, _<_}
 use mathlib.Core.Bool.{Bool, true, false, _&&_}
 use mathlib.Core.List.{List}
 use mathlib.Core.Logic.{_⊎_, inl, inr}
-use mathlib.Core.Option.{Option, none, some}
 use mathlib.Core.Path.{_≡_, refl, sym, ap, _∙_}
 use native.Mathlib.Omega.{arith}
 use borrow.Author.Tests.{ltb-true, ltb-false, leb-true, lt-ltb, le-ltb, le-leb, eqb-true, eqb-false, eq-eqb}
 use lib.Dec.{leb, ltb, eqb}
-use lib.IntN.{ℤ, pos}
-use lib.ListN.{length, getD, set, replicate, length-set, length-replicate, getD-replicate}
+use lib.IntN.{pos}
+use lib.ListN.{length, getD, set, replicate, length-set, getD-replicate}
 use lib.Seq.{getD-set-same, getD-set-other}
-use lib.Signed.{ltZ, leZ}
+use lib.Signed.{ltZ}
 use Rattle.rules.specs.Words.{when}
 use Rattle.rules.specs.Job.{Job, pieceCount, desk}
 use Rattle.rules.specs.Moments.{latest, sooner}
-use Rattle.rules.specs.Urgency.{progress, isReady, workAt, worked, choice}
+use Rattle.rules.specs.Urgency.{workAt, worked}
 use Rattle.laws.proofs.Hours.{always-open}
 use Rattle.laws.proofs.Order.{smaller-sooner, sooner-trans}
-use Rattle.laws.proofs.Signed.{up, dn, _≼_, _≺_, ltZ-lt, ltZ-le}
-use Rattle.laws.proofs.Slots.{Waits, Chosen, chosen-choice, resting-choice}
+use Rattle.laws.proofs.Signed.{ltZ-lt, ltZ-le}
+use Rattle.laws.proofs.Slots.{Waits, chosen-choice, resting-choice}
 use Rattle.laws.proofs.Words.{by-test, true-or-false, and-true, and-intro, when-true, when-false}
 use Rattle.slots.specs.Standing.{waitsOf, readyOf}
 use Rattle.slots.specs.Stretch.{at}
@@ -41,7 +40,8 @@ pub record Shown (J : Job) (n : ℕ) (v : View) : Type 0 where
 
 module _ (J : Job) (n : ℕ) (v : View) (s : Shown J n v) where
   -- What is due: unfinished, and waiting for no piece.
-  pub due-facts : (i : ℕ) → i < n → isDue v i ≡ true → (0 < at J (v .moment) i .left) × (waitsOf J (at J (v .moment)) i ≡ 0)
+  pub due-facts : (i : ℕ) → i < n → isDue v i ≡ true
+      → (0 < at J (v .moment) i .left) × (waitsOf J (at J (v .moment)) i ≡ 0)
   unfolding isDue
   due-facts i h e =
       let w = and-true (ltb 0 (getD (v .left) i 0)) (eqb (getD (v .waits) i 0) 0) e in (
@@ -52,7 +52,8 @@ module _ (J : Job) (n : ℕ) (v : View) (s : Shown J n v) where
   pub facts-due : (i : ℕ) → i < n → 0 < at J (v .moment) i .left → waitsOf J (at J (v .moment)) i ≡ 0 → isDue v i ≡ true
   unfolding isDue
   facts-due i h l w =
-      and-intro _ _ (lt-ltb 0 (getD (v .left) i 0) (rw (s .left-is i h) l)) (eq-eqb (getD (v .waits) i 0) 0 (s .waits-is i h ∙ w))
+      and-intro _ _ (lt-ltb 0 (getD (v .left) i 0) (rw (s .left-is i h) l))
+      (eq-eqb (getD (v .waits) i 0) 0 (s .waits-is i h ∙ w))
 
   -- The test that the code makes of piece i.
   fit : ℕ → Bool
@@ -76,7 +77,8 @@ module _ (J : Job) (n : ℕ) (v : View) (s : Shown J n v) where
   waits-fit d i w =
       let h : i < n = rw (s .count) at (w .inside) in
       let r = ready-waits J (workAt J (v .moment)) (v .moment) i (w .is-ready) in
-      and-intro _ _ (facts-due i h (w .unfinished) (r .0)) (le-leb (getD (v .ready) i 0) (v .moment) (rw (s .ready-is i h) (r .1)))
+      and-intro _ _ (facts-due i h (w .unfinished) (r .0))
+      (le-leb (getD (v .ready) i 0) (v .moment) (rw (s .ready-is i h) (r .1)))
 
   -- The best of the first k pieces for desk d: none of them fits, or it is x.
   record Best (k d x : ℕ) : Type 0 where
@@ -140,11 +142,13 @@ module _ (J : Job) (n : ℕ) (v : View) (s : Shown J n v) where
   }
 
   -- By the latest moments: a smaller one goes before, and on an equal one the lower number does.
-  goes-before : (k x : ℕ) → k < n → x < k → ltZ (getD (v .latests) k (pos 0)) (getD (v .latests) x (pos 0)) ≡ true → sooner J k x ≡ true
+  goes-before : (k x : ℕ) → k < n → x < k → ltZ (getD (v .latests) k (pos 0)) (getD (v .latests) x (pos 0)) ≡ true
+      → sooner J k x ≡ true
   goes-before k x h l e =
       smaller-sooner J k x (ltZ-lt _ _ (rw (s .latest-is k h, s .latest-is x (omega arith)) at e))
 
-  goes-behind : (k x : ℕ) → k < n → x < k → ltZ (getD (v .latests) k (pos 0)) (getD (v .latests) x (pos 0)) ≡ false → sooner J x k ≡ true
+  goes-behind : (k x : ℕ) → k < n → x < k → ltZ (getD (v .latests) k (pos 0)) (getD (v .latests) x (pos 0)) ≡ false
+      → sooner J x k ≡ true
   goes-behind k x h l e =
       lower-sooner J x k (ltZ-le _ _ (rw (s .latest-is k h, s .latest-is x (omega arith)) at e)) l
 
@@ -185,21 +189,25 @@ module _ (J : Job) (n : ℕ) (v : View) (s : Shown J n v) where
     unfolding offered Found
     own-found f w = by-test goes
         (λ g. rw (when-true goes (set D own k) D g, getD-set-same D own k 0 (omega (arith, s .desk-most k h)))
-        (inr (taken k own (getD D own 0) w (s .desk-is k h) f (λ l. goes-before k (getD D own 0) h l (sym (goes-latest l) ∙ g)))))
+        (inr (taken k own (getD D own 0) w (s .desk-is k h) f
+        (λ l. goes-before k (getD D own 0) h l (sym (goes-latest l) ∙ g)))))
         (λ g. rw (when-false goes (set D own k) D g) (kept g w))
       where
         kept : goes ≡ false → Found k own (getD D own 0) → Found (suc k) own (getD D own 0)
         kept g (inl u) = true-or-false (sym (goes-nobody (u .0)) ∙ g)
-        kept g (inr b) = inr (stays k own (getD D own 0) b (goes-behind k (getD D own 0) h (b .inside) (sym (goes-latest (b .inside)) ∙ g)))
+        kept g (inr b) = inr (stays k own (getD D own 0) b
+            (goes-behind k (getD D own 0) h (b .inside) (sym (goes-latest (b .inside)) ∙ g)))
 
-    other-found : (d : ℕ) → (own ≡ d → ⊥) → Found k d (getD D d 0) → Found (suc k) d (getD (offered (v .latests) k own D) d 0)
+    other-found : (d : ℕ) → (own ≡ d → ⊥) → Found k d (getD D d 0)
+        → Found (suc k) d (getD (offered (v .latests) k own D) d 0)
     unfolding offered
     other-found d ne w = by-test goes
         (λ g. rw (when-true goes (set D own k) D g, getD-set-other D own d k 0 (λ z. ne (sym z)))
         (passed-over k d (getD D d 0) w (λ q f. other-desk d q ne)))
         (λ g. rw (when-false goes (set D own k) D g) (passed-over k d (getD D d 0) w (λ q f. other-desk d q ne)))
 
-    offered-found : (d : ℕ) → fit k ≡ true → Found k d (getD D d 0) → Found (suc k) d (getD (offered (v .latests) k own D) d 0)
+    offered-found : (d : ℕ) → fit k ≡ true → Found k d (getD D d 0)
+        → Found (suc k) d (getD (offered (v .latests) k own D) d 0)
     offered-found d f w = by-test (eqb own d)
         (λ z. let q : own ≡ d = eqb-true own d z in rw (← q) (own-found f (rw (← q) at w)))
         (λ z. other-found d (eqb-false own d z) w)

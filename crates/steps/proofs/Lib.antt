@@ -1,9 +1,11 @@
 -- That one step over the tables is the plan from one decision moment to the next, by topic.
 pub mod Tables
 pub mod Decision
+pub mod Earliest
 pub mod NextMoment
 pub mod Moved
 pub mod WorkStep
+pub mod Passing
 pub mod LinkStep
 pub mod LogLists
 pub mod Scores

@@ -1,34 +1,32 @@
 -- A desk works on, and a run begins: the log has it behind the others, and there is room for it.
-use Prim.Native.Nat.{ℕ, zero, suc, _+_, _-_, _≤_, _<_}
-use mathlib.Core.Bool.{Bool, true, false, _&&_}
+use Prim.Native.Nat.{ℕ, suc, _+_, _-_, _≤_, _<_}
+use mathlib.Core.Bool.{true, false}
 use mathlib.Core.List.{List, [], _∷_, _++_}
-use mathlib.Core.Logic.{_⊎_, inl, inr}
-use mathlib.Core.Option.{Option, none, some}
+use mathlib.Core.Logic.{inl, inr}
+use mathlib.Core.Option.{some}
 use mathlib.Core.Path.{_≡_, refl, sym, ap, _∙_}
 use native.Mathlib.Numerals.{add-one}
 use native.Mathlib.Omega.{arith}
-use borrow.Author.Tests.{ltb-true, ltb-false, lt-ltb, le-ltb, eqb-true, eqb-false, eq-eqb, ne-eqb}
+use borrow.Author.Tests.{ltb-true, ltb-false, eqb-true, eqb-false, eq-eqb, ne-eqb}
 use lib.Dec.{ltb, eqb}
-use lib.ListN.{length, getD, set, length-set}
+use lib.ListN.{length, getD, length-set}
 use lib.Seq.{getD-set-same, getD-set-other}
-use Rattle.rules.specs.Words.{when}
 use Rattle.rules.specs.Job.{Job, pieceCount, desk}
 use Rattle.rules.specs.Runs.{Run}
 use Rattle.rules.specs.Tables.{Sound}
 use Rattle.rules.specs.Urgency.{worked}
-use Rattle.laws.proofs.Slots.{by-choice, worked-chosen, none-or-some, some-inj}
-use Rattle.laws.proofs.Words.{by-test, true-or-false, and-true, when-true, when-false}
-use Rattle.slots.specs.Growth.{goesOnAt, freshRun, longer, grown, runsUntil, lastPiece, lastEnd, lastOn}
+use Rattle.laws.proofs.Slots.{worked-chosen, none-or-some, some-inj}
+use Rattle.laws.proofs.Words.{by-test, true-or-false}
+use Rattle.slots.specs.Growth.{goesOnAt, freshRun, grown, runsUntil, lastPiece, lastEnd, lastOn}
 use Rattle.slots.specs.Stretch.{at, Stretch}
 use Rattle.slots.proofs.Growth.{grown-anew, going-on}
 use Rattle.slots.proofs.Last.{last-piece, last-end, under-way}
-use Rattle.slots.proofs.Score.{Rises, run-rises}
-use Rattle.steps.specs.Choice.{codeOf}
-use Rattle.steps.specs.Log.{Log, log, stays, lengthened, begun, noteOn, noteTo, runAt, loggedRuns}
-use Rattle.steps.proofs.LogHeld.{Placed, logged, LastRun, LogHeld, rested-runs, worked-runs, resting-held}
+use Rattle.slots.proofs.Score.{run-rises}
+use Rattle.steps.specs.Log.{Log, begun, runAt, loggedRuns}
+use Rattle.steps.proofs.LogHeld.{Placed, logged, LastRun, LogHeld, worked-runs}
 use Rattle.steps.proofs.LogLists.{ownRun, own-more, other-more, last-logged, logged-same}
 use Rattle.steps.proofs.Moved.{momentOf, moment-early, moment-late, moment-other}
-use Rattle.steps.proofs.Scores.{scores, scores-most, scores-less, scores-grow, scores-rise}
+use Rattle.steps.proofs.Scores.{scores, scores-less, scores-rise}
 
 -- The run at place c = the count of runs so far, which is the last one now.
 module _ (desks : List ℕ) (l : Log) (t u d i : ℕ) (room : l .runs < 512) (piece-sized : length (l .piece) ≡ 512)
@@ -51,7 +49,8 @@ module _ (desks : List ℕ) (l : Log) (t u d i : ℕ) (room : l .runs < 512) (pi
   old-until : (j : ℕ) → j < c → getD (after .until) j 0 ≡ getD (l .until) j 0
   old-until j h = getD-set-other (l .until) c j u 0 (λ (z : j ≡ c). omega arith)
 
-  new-run : runAt (after .piece) (after .from) (after .until) c ≡ record { piece = i; from = t; until = u; slots = u - t }
+  new-run : runAt (after .piece) (after .from) (after .until) c
+      ≡ record { piece = i; from = t; until = u; slots = u - t }
   new-run =
       rw (new-piece, getD-set-same (l .from) c t 0 (omega arith), getD-set-same (l .until) c u 0 (omega arith))
 
@@ -80,7 +79,8 @@ module _ (desks : List ℕ) (l : Log) (t u d i : ℕ) (room : l .runs < 512) (pi
 module _ (J : Job) (sound : Sound J) (n : ℕ) (desks : List ℕ) (t u k : ℕ) (e : t + k ≡ u) (p : 0 < k) (s : Stretch J t k)
     (count : pieceCount J ≡ n) (small : n ≤ 256) (desk-is : (i : ℕ) → i < n → desk J i ≡ getD desks i 0) where
   module _ (d i : ℕ) (b : d < 32) (q : worked J d t ≡ some i) (l : Log) (h : LogHeld J n desks (momentOf t u d) l)
-      (anew : (w : Placed desks l d) → goesOnAt (runAt (l .piece) (l .from) (l .until) (getD (l .last) d 0)) i t ≡ false) where
+      (anew : (w : Placed desks l d) → goesOnAt (runAt (l .piece) (l .from) (l .until) (getD (l .last) d 0)) i t
+      ≡ false) where
     abbrev now : Log
     now = begun t u d i l
 
@@ -94,7 +94,12 @@ module _ (J : Job) (sound : Sound J) (n : ℕ) (desks : List ℕ) (t u k : ℕ) 
     room =
         let early : momentOf t u d (desk J i) ≡ t =
         moment-early t u d (desk J i) (omega (arith, worked-chosen J d t i q .waits .on-desk)) in
-        omega (arith, h .few, scores-less J n (momentOf t u d) i inside (rw early (worked-chosen J d t i q .waits .unfinished)))
+        omega (
+          arith,
+          h .few,
+          scores-less J n (momentOf t u d) i inside
+              (rw early (worked-chosen J d t i q .waits .unfinished)),
+        )
 
     was : logged desks l d ≡ runsUntil J d t
     was = h .runs-are d b ∙ ap (runsUntil J d) (moment-early t u d d (omega arith))
@@ -107,7 +112,8 @@ module _ (J : Job) (sound : Sound J) (n : ℕ) (desks : List ℕ) (t u k : ℕ) 
 
     last-was : Placed desks l d → runsUntil J d t ≡ before ++ (run ∷ [])
     last-was w =
-        sym was ∙ last-logged desks (l .piece) (l .from) (l .until) d (l .runs) (getD (l .last) d 0) (w .below) (w .own) (w .latest)
+        sym was ∙ last-logged desks (l .piece) (l .from) (l .until) d (l .runs) (getD (l .last) d 0) (w .below) (w .own)
+        (w .latest)
 
     -- The plan's runs grow by a run of its own.
     grows : grown (runsUntil J d t) i t k ≡ runsUntil J d t ++ (freshRun i t k ∷ [])
@@ -154,7 +160,11 @@ module _ (J : Job) (sound : Sound J) (n : ℕ) (desks : List ℕ) (t u k : ℕ) 
         let same : getD (now .last) f 0 ≡ getD (l .last) f 0 = getD-set-other (l .last) d f (l .runs) 0 ne in
         inr (record {
           below = rw same (omega (arith, y .below));
-          own = rw (same, old-piece desks l t u d i room (h .piece-sized) (h .from-sized) (h .until-sized) own-desk _ (y .below)) (y .own);
+          own = rw (
+            same,
+            old-piece desks l t u d i room (h .piece-sized) (h .from-sized) (h .until-sized) own-desk _
+                (y .below),
+          ) (y .own);
           latest = λ j a c. by-test (ltb j (l .runs))
               (λ z. let o = ltb-true j (l .runs) z in
               old-own desks l t u d i room (h .piece-sized) (h .from-sized) (h .until-sized) own-desk f j o
@@ -166,7 +176,8 @@ module _ (J : Job) (sound : Sound J) (n : ℕ) (desks : List ℕ) (t u k : ℕ) 
     own-last : LastRun desks now d
     unfolding LastRun
     own-last =
-        let same : getD (now .last) d 0 ≡ l .runs = getD-set-same (l .last) d (l .runs) 0 (omega (arith, h .last-sized)) in
+        let same : getD (now .last) d 0 ≡ l .runs = getD-set-same (l .last) d (l .runs) 0
+        (omega (arith, h .last-sized)) in
         inr (record {
           below = rw same (omega arith);
           own = rw same (new-own desks l t u d i room (h .piece-sized) (h .from-sized) (h .until-sized) own-desk);
@@ -187,7 +198,8 @@ module _ (J : Job) (sound : Sound J) (n : ℕ) (desks : List ℕ) (t u k : ℕ) 
           (λ z. others-last f (h .lasts f c) (eqb-false f d z));
       inside = λ j c. by-test (ltb j (l .runs))
           (λ z. let o = ltb-true j (l .runs) z in
-          rw (old-piece desks l t u d i room (h .piece-sized) (h .from-sized) (h .until-sized) own-desk j o) (h .inside j o))
+          rw (old-piece desks l t u d i room (h .piece-sized) (h .from-sized) (h .until-sized) own-desk j o)
+          (h .inside j o))
           (λ z. let m : j ≡ l .runs = omega (arith, ltb-false j (l .runs) z) in
           rw (m, new-piece desks l t u d i room (h .piece-sized) (h .from-sized) (h .until-sized) own-desk) inside);
       forward = λ j c. by-test (ltb j (l .runs))

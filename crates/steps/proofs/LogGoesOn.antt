@@ -1,37 +1,32 @@
 -- A desk works on, and its last run goes on: the log has it longer, and nothing else changes.
-use Prim.Native.Nat.{ℕ, zero, suc, _+_, _-_, _≤_, _<_}
-use mathlib.Core.Bool.{Bool, true, false, _&&_}
+use Prim.Native.Nat.{ℕ, suc, _+_, _-_, _≤_, _<_}
+use mathlib.Core.Bool.{true}
 use mathlib.Core.List.{List, [], _∷_, _++_}
-use mathlib.Core.Logic.{_⊎_, inl, inr}
-use mathlib.Core.Option.{Option, none, some}
+use mathlib.Core.Logic.{inl, inr}
+use mathlib.Core.Option.{some}
 use mathlib.Core.Path.{_≡_, refl, sym, ap, _∙_}
-use native.Mathlib.Numerals.{add-one}
 use native.Mathlib.Omega.{arith}
-use borrow.Author.Tests.{ltb-true, ltb-false, lt-ltb, le-ltb, eqb-true, eqb-false, eq-eqb, ne-eqb}
-use lib.Dec.{ltb, eqb}
-use lib.ListN.{length, getD, set, length-set}
+use borrow.Author.Tests.{lt-ltb, eqb-true, eqb-false}
+use lib.Dec.{eqb}
+use lib.ListN.{length, getD, length-set}
 use lib.Seq.{getD-set-same, getD-set-other}
-use Rattle.rules.specs.Words.{when}
 use Rattle.rules.specs.Job.{Job, pieceCount, desk}
 use Rattle.rules.specs.Runs.{Run}
 use Rattle.rules.specs.Tables.{Sound}
 use Rattle.rules.specs.Urgency.{worked}
-use Rattle.laws.proofs.Slots.{by-choice, worked-chosen, none-or-some, some-inj}
-use Rattle.laws.proofs.Words.{by-test, true-or-false, and-true, when-true, when-false}
-use Rattle.slots.specs.Growth.{goesOnAt, freshRun, longer, grown, runsUntil, lastPiece, lastEnd, lastOn}
+use Rattle.laws.proofs.Words.{by-test}
+use Rattle.slots.specs.Growth.{goesOnAt, longer, grown, runsUntil}
 use Rattle.slots.specs.Stretch.{at, Stretch}
-use Rattle.slots.proofs.Growth.{grown-on, grown-anew, goes-on}
-use Rattle.slots.proofs.Last.{last-piece, last-end, under-way}
-use Rattle.slots.proofs.Score.{Rises, run-rises}
-use Rattle.steps.specs.Choice.{codeOf}
-use Rattle.steps.specs.Log.{Log, log, stays, lengthened, begun, noteOn, noteTo, runAt, loggedRuns}
-use Rattle.steps.proofs.LogHeld.{Placed, logged, LastRun, LogHeld, rested-runs, worked-runs, resting-held}
-use Rattle.steps.proofs.LogLists.{ownRun, own-more, other-more, last-logged, logged-same}
+use Rattle.slots.proofs.Growth.{grown-on, goes-on}
+use Rattle.steps.specs.Log.{Log, stays, lengthened, runAt, loggedRuns}
+use Rattle.steps.proofs.LogHeld.{Placed, logged, LastRun, LogHeld, worked-runs}
+use Rattle.steps.proofs.LogLists.{ownRun, last-logged, logged-same}
 use Rattle.steps.proofs.Moved.{momentOf, moment-early, moment-late, moment-other}
-use Rattle.steps.proofs.Scores.{scores, scores-most, scores-less, scores-grow, scores-rise}
+use Rattle.steps.proofs.Scores.{scores-most, scores-grow}
 
 -- The test that the code makes of the desk's last run is whether that run goes on.
-pub stays-goes : (piece from until : List ℕ) (k i t : ℕ) → k < 512 → stays piece until k i t ≡ goesOnAt (runAt piece from until k) i t
+pub stays-goes : (piece from until : List ℕ) (k i t : ℕ) → k < 512
+    → stays piece until k i t ≡ goesOnAt (runAt piece from until k) i t
 unfolding stays goesOnAt
 stays-goes piece from until k i t h = rw (lt-ltb k 512 h)
 
@@ -40,7 +35,8 @@ module _ (desks : List ℕ) (l : Log) (t u c : ℕ) where
   abbrev after : Log
   after = lengthened t u c l
 
-  elsewhere : (j : ℕ) → (j ≡ c → ⊥) → runAt (l .piece) (l .from) (after .until) j ≡ runAt (l .piece) (l .from) (l .until) j
+  elsewhere : (j : ℕ) → (j ≡ c → ⊥)
+      → runAt (l .piece) (l .from) (after .until) j ≡ runAt (l .piece) (l .from) (l .until) j
   elsewhere j ne = rw (getD-set-other (l .until) c j u 0 ne)
 
   -- Other desks, and what stands before it of its own.
@@ -49,7 +45,8 @@ module _ (desks : List ℕ) (l : Log) (t u c : ℕ) where
       logged-same desks (l .piece) (l .piece) (l .from) (l .from) (l .until) (after .until) f (l .runs) (λ j b. refl)
       (λ j b w. elsewhere j (λ z. ne (sym (eqb-true _ f (rw z at w)) ∙ eqb-true _ d o)))
 
-  before-logged : (d : ℕ) → loggedRuns desks (l .piece) (l .from) (after .until) c d ≡ loggedRuns desks (l .piece) (l .from) (l .until) c d
+  before-logged : (d : ℕ)
+      → loggedRuns desks (l .piece) (l .from) (after .until) c d ≡ loggedRuns desks (l .piece) (l .from) (l .until) c d
   before-logged d =
       logged-same desks (l .piece) (l .piece) (l .from) (l .from) (l .until) (after .until) d c (λ j b. refl)
       (λ j b w. elsewhere j (λ z. omega arith))
@@ -57,7 +54,8 @@ module _ (desks : List ℕ) (l : Log) (t u c : ℕ) where
 module _ (J : Job) (sound : Sound J) (n : ℕ) (desks : List ℕ) (t u k : ℕ) (e : t + k ≡ u) (p : 0 < k) (s : Stretch J t k)
     (count : pieceCount J ≡ n) (small : n ≤ 256) (desk-is : (i : ℕ) → i < n → desk J i ≡ getD desks i 0) where
   module _ (d i : ℕ) (b : d < 32) (q : worked J d t ≡ some i) (l : Log) (h : LogHeld J n desks (momentOf t u d) l)
-      (w : Placed desks l d) (on : goesOnAt (runAt (l .piece) (l .from) (l .until) (getD (l .last) d 0)) i t ≡ true) where
+      (w : Placed desks l d) (on : goesOnAt (runAt (l .piece) (l .from) (l .until) (getD (l .last) d 0)) i t
+      ≡ true) where
     abbrev place : ℕ
     place = getD (l .last) d 0
 
@@ -78,7 +76,8 @@ module _ (J : Job) (sound : Sound J) (n : ℕ) (desks : List ℕ) (t u k : ℕ) 
     run-longer =
         let f : getD (l .from) place 0 ≤ getD (l .until) place 0 = h .forward place (w .below) in
         let y : getD (l .until) place 0 + k ≡ u = omega (arith, ended) in
-        let z : getD (l .until) place 0 - getD (l .from) place 0 + k ≡ u - getD (l .from) place 0 = omega (arith, ended) in
+        let z : getD (l .until) place 0 - getD (l .from) place 0 + k ≡ u - getD (l .from) place 0 = omega
+        (arith, ended) in
         rw (getD-set-same (l .until) place u 0 room, y, z)
 
     before : List Run

@@ -1,33 +1,28 @@
 -- A log that has the runs of every desk up to the desk's moment; and what a desk's runs are once it is moved on.
-use Prim.Native.Nat.{ℕ, zero, suc, _+_, _-_, _≤_, _<_}
-use mathlib.Core.Bool.{Bool, true, false, _&&_}
-use mathlib.Core.List.{List, [], _∷_, _++_, map}
-use mathlib.Core.Logic.{_⊎_, inl, inr}
-use mathlib.Core.Option.{Option, none, some}
-use mathlib.Core.Path.{_≡_, refl, sym, ap, _∙_}
+use Prim.Native.Nat.{ℕ, suc, _+_, _-_, _≤_, _<_}
+use mathlib.Core.Bool.{true, false}
+use mathlib.Core.List.{List, []}
+use mathlib.Core.Logic.{_⊎_}
+use mathlib.Core.Option.{none, some}
+use mathlib.Core.Path.{_≡_, sym, _∙_}
 use native.Mathlib.Omega.{arith}
-use borrow.Author.Tests.{ltb-true, ltb-false, lt-ltb, le-ltb, eqb-true, eqb-false, eq-eqb, ne-eqb}
-use lib.Dec.{ltb, eqb}
-use lib.ListN.{length, getD, set, length-set}
-use lib.Seq.{getD-set-same, getD-set-other}
-use Rattle.rules.specs.Words.{when, below}
+use borrow.Author.Tests.{eqb-true, eqb-false}
+use lib.Dec.{eqb}
+use lib.ListN.{length, getD}
+use Rattle.rules.specs.Words.{below}
 use Rattle.rules.specs.Job.{Job, pieceCount, desk}
 use Rattle.rules.specs.Runs.{Run}
 use Rattle.rules.specs.Tables.{Sound}
 use Rattle.rules.specs.Urgency.{worked}
-use Rattle.laws.proofs.Slots.{by-choice, worked-chosen, none-or-some, some-inj}
-use Rattle.laws.proofs.Words.{by-test, true-or-false, and-true, when-true, when-false}
-use Rattle.slots.specs.Growth.{goesOnAt, freshRun, longer, grown, runsUntil, lastPiece, lastEnd, lastOn, score}
+use Rattle.laws.proofs.Words.{by-test}
+use Rattle.slots.specs.Growth.{grown, runsUntil}
 use Rattle.slots.specs.Stretch.{at, Stretch}
-use Rattle.slots.proofs.Growth.{grown-on, grown-anew, goes-on, runs-resting, runs-working}
-use Rattle.slots.proofs.Last.{last-piece, last-end, under-way}
-use Rattle.slots.proofs.Score.{Rises, run-rises}
+use Rattle.slots.proofs.Growth.{runs-resting, runs-working}
 use Rattle.slots.proofs.Stretch.{keeps-choice}
-use Rattle.steps.specs.Choice.{codeOf}
-use Rattle.steps.specs.Log.{Log, log, stays, lengthened, begun, noteOn, noteTo, runAt, loggedRuns}
-use Rattle.steps.proofs.LogLists.{ownRun, own-more, other-more, last-logged, logged-same}
+use Rattle.steps.specs.Log.{Log, loggedRuns}
+use Rattle.steps.proofs.LogLists.{ownRun}
 use Rattle.steps.proofs.Moved.{momentOf, moment-early, moment-late, moment-other}
-use Rattle.steps.proofs.Scores.{scores, scores-most, scores-less, scores-grow, scores-rise}
+use Rattle.steps.proofs.Scores.{scores, scores-grow}
 
 -- The desk's last run in the log: there is none, or it stands at the place that the table has.
 pub record Placed (desks : List ℕ) (l : Log) (d : ℕ) : Type 0 where
@@ -70,7 +65,8 @@ module _ (J : Job) (sound : Sound J) (n : ℕ) (desks : List ℕ) (t u k : ℕ) 
       rw (z, y) at w
 
   -- A desk that rests leaves the log as it is.
-  pub resting-held : (d : ℕ) → worked J d t ≡ none → (l : Log) → LogHeld J n desks (then-at d) l → LogHeld J n desks (then-at (suc d)) l
+  pub resting-held : (d : ℕ) → worked J d t ≡ none → (l : Log) → LogHeld J n desks (then-at d) l
+      → LogHeld J n desks (then-at (suc d)) l
   resting-held d q l h = record {
     last-sized = h .last-sized;
     piece-sized = h .piece-sized;

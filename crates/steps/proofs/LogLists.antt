@@ -1,16 +1,15 @@
 -- The runs of a desk out of the log: what a run that begins and a run that goes on make of them.
-use Prim.Native.Nat.{ℕ, zero, suc, _+_, _-_, _≤_, _<_}
+use Prim.Native.Nat.{ℕ, zero, suc, _<_}
 use mathlib.Core.Bool.{Bool, true, false}
 use mathlib.Core.List.{List, [], _∷_, _++_, map, map-append, append-nil}
-use mathlib.Core.Path.{_≡_, refl, sym, ap, _∙_}
+use mathlib.Core.Path.{_≡_, refl, sym, _∙_}
 use native.Mathlib.Omega.{arith}
-use borrow.Author.Tests.{ltb-true, ltb-false, eqb-true, eqb-false, eq-eqb, ne-eqb}
-use lib.Dec.{ltb, eqb}
-use lib.ListN.{length, getD, set}
-use lib.Seq.{getD-set-same, getD-set-other}
+use borrow.Author.Tests.{eqb-true, eqb-false}
+use lib.Dec.{eqb}
+use lib.ListN.{getD}
 use Rattle.rules.specs.Words.{when, keep, below}
 use Rattle.rules.specs.Runs.{Run}
-use Rattle.laws.proofs.Words.{by-test, true-or-false}
+use Rattle.laws.proofs.Words.{by-test}
 use Rattle.steps.specs.Log.{runAt, loggedRuns}
 use Rattle.steps.proofs.Tables.{below-more}
 
@@ -50,7 +49,8 @@ module _ (desks piece from until : List ℕ) (d : ℕ) where
   unfolding loggedRuns keep
   other-more c e =
       rw (below-more c, keep-append own (below c) (c ∷ []))
-      (map-append run (keep own (below c)) (keep own (c ∷ [])) ∙ rw (e, when) (append-nil (map run (keep own (below c)))))
+      (map-append run (keep own (below c)) (keep own (c ∷ [])) ∙ rw (e, when)
+      (append-nil (map run (keep own (below c)))))
 
   -- The desk's last run stands at place k.
   pub last-logged : (c k : ℕ) → k < c → own k ≡ true → ((j : ℕ) → k < j → j < c → own j ≡ false)

@@ -1,10 +1,10 @@
 -- The log over a step: with every desk moved on its runs are the plan's up to the next moment.
 use Prim.Native.Nat.{ℕ, zero, suc, _+_, _≤_, _<_}
 use mathlib.Core.Bool.{Bool, true, false, _&&_}
-use mathlib.Core.List.{List, map}
-use mathlib.Core.Logic.{_⊎_, inl, inr}
-use mathlib.Core.Option.{Option, none, some}
-use mathlib.Core.Path.{_≡_, refl, sym, ap, _∙_}
+use mathlib.Core.List.{List}
+use mathlib.Core.Logic.{inl, inr}
+use mathlib.Core.Option.{some}
+use mathlib.Core.Path.{_≡_, sym, ap, _∙_}
 use native.Mathlib.Omega.{arith}
 use borrow.Author.Tests.{ltb-true, lt-ltb, le-ltb}
 use lib.Dec.{ltb, eqb}
@@ -14,12 +14,12 @@ use Rattle.rules.specs.Job.{Job, pieceCount, desk}
 use Rattle.rules.specs.Tables.{Sound}
 use Rattle.rules.specs.Urgency.{worked}
 use Rattle.laws.proofs.Slots.{by-choice, worked-chosen}
-use Rattle.laws.proofs.Words.{by-test, and-true, when-true, when-false, map-same, mem-below}
-use Rattle.slots.specs.Growth.{goesOnAt, runsUntil, score}
+use Rattle.laws.proofs.Words.{by-test, and-true, map-same, mem-below}
+use Rattle.slots.specs.Growth.{goesOnAt, score}
 use Rattle.slots.specs.Stretch.{Stretch}
 use Rattle.steps.specs.Choice.{codeOf}
-use Rattle.steps.specs.Log.{Log, stays, lengthened, begun, noteOn, noteTo, runAt}
-use Rattle.steps.proofs.LogHeld.{Placed, logged, LastRun, LogHeld, resting-held}
+use Rattle.steps.specs.Log.{Log, stays, lengthened, noteOn, noteTo, runAt}
+use Rattle.steps.proofs.LogHeld.{Placed, LastRun, LogHeld, resting-held}
 use Rattle.steps.proofs.LogGoesOn.{stays-goes, goes-on-held}
 use Rattle.steps.proofs.LogBegins.{room, begins-held}
 use Rattle.steps.proofs.Moved.{momentOf, moment-early, moment-late}
@@ -51,7 +51,8 @@ module _ (J : Job) (sound : Sound J) (n : ℕ) (desks : List ℕ) (t u k : ℕ) 
         goes-on-held J sound n desks t u k e p s count small desk-is d i b q l h w
         (sym (stays-goes (l .piece) (l .from) (l .until) (getD (l .last) d 0) i t (in-log w)) ∙ y)
 
-    anew : test ≡ false → (w : Placed desks l d) → goesOnAt (runAt (l .piece) (l .from) (l .until) (getD (l .last) d 0)) i t ≡ false
+    anew : test ≡ false → (w : Placed desks l d)
+        → goesOnAt (runAt (l .piece) (l .from) (l .until) (getD (l .last) d 0)) i t ≡ false
     anew y w = sym (stays-goes (l .piece) (l .from) (l .until) (getD (l .last) d 0) i t (in-log w)) ∙ y
 
     working : Then (suc d) (noteOn t u d i l)
@@ -60,7 +61,13 @@ module _ (J : Job) (sound : Sound J) (n : ℕ) (desks : List ℕ) (t u k : ℕ) 
         let few : i < 256 = omega (arith, rw count at (worked-chosen J d t i q .waits .inside)) in
         by-test test
         (λ y. rw (lt-ltb i 256 few, y, when) (goes y (h .lasts d b)))
-        (λ y. rw (lt-ltb i 256 few, y, lt-ltb (l .runs) 512 (room J sound n desks t u k e p s count small desk-is d i b q l h (anew y)), when)
+        (λ y. rw (
+          lt-ltb i 256 few,
+          y,
+          lt-ltb (l .runs) 512
+              (room J sound n desks t u k e p s count small desk-is d i b q l h (anew y)),
+          when,
+        )
         (begins-held J sound n desks t u k e p s count small desk-is d i b q l h (anew y)))
 
   -- Desk d moved on, by the code of its choice.
@@ -102,6 +109,7 @@ pub note-step : (J : Job) (sound : Sound J) (n : ℕ) (desks : List ℕ) (t u k 
     → (chosen : List ℕ) → ((d : ℕ) → d < 32 → getD chosen d 0 ≡ codeOf (worked J d t))
     → (l : Log) → LogHeld J n desks (λ d. t) l → LogHeld J n desks (λ d. u) (noteTo t u chosen 32 l)
 note-step J sound n desks t u k e p s count small desk-is few-desks chosen c l h =
-    log-alike J n desks (momentOf t u 32) (λ d. u) (noteTo t u chosen 32 l) (λ d b. sym (moment-late t u 32 d b)) few-desks
+    log-alike J n desks (momentOf t u 32) (λ d. u) (noteTo t u chosen 32 l)
+    (λ d b. sym (moment-late t u 32 d b)) few-desks
     (note-desks J sound n desks t u k e p s count small desk-is chosen c 32 (omega arith) l
     (log-alike J n desks (λ d. t) (momentOf t u 0) l (λ d b. moment-early t u 0 d (omega arith)) few-desks h))

@@ -1,9 +1,8 @@
 -- The desks moved on one after the other from moment t to the end of a stretch: how far the pieces are once the first d
 -- desks have been moved on.
-use Prim.Native.Nat.{ℕ, zero, suc, _+_, _≤_, _<_}
-use mathlib.Core.Bool.{true, false}
-use mathlib.Core.Option.{none, some}
-use mathlib.Core.Path.{_≡_, refl, sym, ap, _∙_}
+use Prim.Native.Nat.{ℕ, suc, _+_, _≤_, _<_}
+use mathlib.Core.Option.{some}
+use mathlib.Core.Path.{_≡_, sym, ap, _∙_}
 use native.Mathlib.Omega.{arith}
 use borrow.Author.Tests.{ltb-true, ltb-false, lt-ltb, le-ltb, eqb-true, eqb-false}
 use lib.Dec.{ltb, eqb}
@@ -44,7 +43,8 @@ module _ (J : Job) where
 
   module _ (sound : Sound J) (t u k : ℕ) (e : t + k ≡ u) (s : Stretch J t k) where
     -- Desk d is moved on: who it does not work on stays where it was.
-    pub unmoved : (d j : ℕ) → (worked J d t ≡ some j → ⊥) → standing (momentOf t u (suc d)) j ≡ standing (momentOf t u d) j
+    pub unmoved : (d j : ℕ) → (worked J d t ≡ some j → ⊥)
+        → standing (momentOf t u (suc d)) j ≡ standing (momentOf t u d) j
     unmoved d j ne = by-test (eqb (desk J j) d)
         (λ q. let z : desk J j ≡ d = eqb-true (desk J j) d q in
         ap (λ x. at J x j) (moment-late t u (suc d) (desk J j) (omega arith)) ∙ same z
@@ -70,4 +70,5 @@ module _ (J : Job) where
       pub moved-on : 0 < k → at J u i ≡ workedFor (duration J i) t k (at J t i)
       moved-on p =
           sym (ap (λ x. at J x i) e)
-          ∙ worked-through J sound t k s p i (worked-chosen J d t i w .waits .inside) (ap (λ x. worked J x t) own-desk ∙ w)
+          ∙ worked-through J sound t k s p i (worked-chosen J d t i w .waits .inside)
+          (ap (λ x. worked J x t) own-desk ∙ w)

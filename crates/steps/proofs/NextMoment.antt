@@ -1,16 +1,14 @@
 -- The next moment over the tables: from the moment on until then nothing is decided, it comes as long as a piece is
 -- unfinished, and it lies within the horizon.
-use Prim.Native.Nat.{ℕ, zero, suc, _+_, _-_, _≤_, _<_, min}
-use mathlib.Core.Bool.{Bool, true, false, _&&_}
-use mathlib.Core.List.{List}
+use Prim.Native.Nat.{ℕ, _+_, _-_, _≤_, _<_}
+use mathlib.Core.Bool.{true}
 use mathlib.Core.Logic.{_⊎_, inl, inr}
-use mathlib.Core.Option.{Option, none, some}
-use mathlib.Core.Path.{_≡_, refl, sym, ap, _∙_}
+use mathlib.Core.Option.{none, some}
+use mathlib.Core.Path.{_≡_, sym, ap, _∙_}
 use native.Mathlib.Omega.{arith}
 use borrow.Author.Tests.{ltb-true, ltb-false, lt-ltb, eqb-true, eqb-false}
 use lib.Dec.{ltb, eqb}
 use lib.ListN.{getD}
-use Rattle.rules.specs.Words.{when}
 use Rattle.rules.specs.Job.{Job, pieceCount, desk}
 use Rattle.rules.specs.Rings.{ringPiece}
 use Rattle.rules.specs.Tables.{Sound}
@@ -18,115 +16,14 @@ use Rattle.rules.specs.Urgency.{worked, horizon}
 use Rattle.laws.proofs.Finishing.{all-finished, horizon-most}
 use Rattle.laws.proofs.Progress.{finished-for-good}
 use Rattle.laws.proofs.Slots.{by-choice, worked-chosen}
-use Rattle.laws.proofs.Words.{by-test, and-true, and-intro, when-true, when-false}
+use Rattle.laws.proofs.Words.{by-test, and-intro}
 use Rattle.slots.specs.Standing.{waitsOf, readyOf}
 use Rattle.slots.specs.Stretch.{at, Stretch}
 use Rattle.slots.proofs.Ended.{Ended}
 use Rattle.slots.proofs.Stretch.{unfinished-through}
-use Rattle.steps.specs.Choice.{View, isDue, momentWith, readyNext, endWith, endNext, choiceOf, nextOf, codeOf, never}
+use Rattle.steps.specs.Choice.{View, isDue, readyNext, choiceOf, nextOf, codeOf, never}
 use Rattle.steps.proofs.Decision.{Shown, due-facts, facts-due, choice-is}
-
--- The lesser of a number and, where a test holds, another.
-module _ (b : Bool) (m x : ℕ) where
-  abbrev lesser : ℕ
-  lesser = when b (min m x) m
-
-  lesser-most : lesser ≤ m
-  unfolding when
-  lesser-most = by-test b (λ e. rw e (omega arith)) (λ e. rw e (omega arith))
-
-  lesser-counts : b ≡ true → lesser ≤ x
-  unfolding when
-  lesser-counts e = rw e (omega arith)
-
-  lesser-above : (t : ℕ) → t < m → (b ≡ true → t < x) → t < lesser
-  unfolding when
-  lesser-above t h k = by-test b (λ e. let q : t < x = k e in rw e (omega arith)) (λ e. rw e h)
-
-  lesser-from : (lesser ≡ m) ⊎ (b ≡ true)
-  unfolding when
-  lesser-from = by-test b (λ e. inr e) (λ e. inl (rw e))
-
--- The first moment at which a piece becomes ready.
-module _ (v : View) where
-  abbrev later : ℕ → Bool
-  later i = isDue v i && ltb (v .moment) (getD (v .ready) i 0)
-
-  ready-most : (k m : ℕ) → readyNext v k m ≤ m
-  unfolding readyNext momentWith
-  ready-most zero m = omega arith
-  ready-most (suc k) m = omega (arith, ready-most k m, lesser-most (later k) (readyNext v k m) (getD (v .ready) k 0))
-
-  ready-counts : (k m i : ℕ) → i < k → later i ≡ true → readyNext v k m ≤ getD (v .ready) i 0
-  unfolding readyNext momentWith
-  ready-counts zero m i h e = absurd (omega arith)
-  ready-counts (suc k) m i h e = by-test (ltb i k)
-      (λ q. omega (arith, ready-counts k m i (ltb-true i k q) e, lesser-most (later k) (readyNext v k m) (getD (v .ready) k 0)))
-      (λ q. let z : i ≡ k = omega (arith, ltb-false i k q) in
-      rw z (lesser-counts (later k) (readyNext v k m) (getD (v .ready) k 0) (rw z at e)))
-
-  ready-above : (k m : ℕ) → v .moment < m → v .moment < readyNext v k m
-  unfolding readyNext momentWith
-  ready-above zero m h = h
-  ready-above (suc k) m h =
-      lesser-above (later k) (readyNext v k m) (getD (v .ready) k 0) (v .moment) (ready-above k m h)
-      (λ e. ltb-true (v .moment) _ (and-true (isDue v k) _ e .1))
-
-  ready-from : (k m : ℕ) → (readyNext v k m ≡ m) ⊎ ((i : ℕ) × (i < k) × (isDue v i ≡ true))
-  unfolding readyNext momentWith
-  ready-from zero m = inl refl
-  ready-from (suc k) m = go (lesser-from (later k) (readyNext v k m) (getD (v .ready) k 0)) (ready-from k m)
-    where
-      go : (lesser (later k) (readyNext v k m) (getD (v .ready) k 0) ≡ readyNext v k m) ⊎ (later k ≡ true)
-          → (readyNext v k m ≡ m) ⊎ ((i : ℕ) × (i < k) × (isDue v i ≡ true))
-          → (lesser (later k) (readyNext v k m) (getD (v .ready) k 0) ≡ m) ⊎ ((i : ℕ) × (i < suc k) × (isDue v i ≡ true))
-      go (inr e) ih = inr (k, omega arith, and-true (isDue v k) _ e .0)
-      go (inl e) (inl q) = inl (e ∙ q)
-      go (inl e) (inr w) = inr (w .0, omega (arith, w .1), w .2)
-
--- The first moment at which a chosen piece would be finished.
-module _ (t : ℕ) (left D : List ℕ) where
-  abbrev someone : ℕ → Bool
-  someone d = ltb (getD D d 0) 256
-
-  end-most : (k m : ℕ) → endNext t left D k m ≤ m
-  unfolding endNext endWith
-  end-most zero m = omega arith
-  end-most (suc k) m =
-      omega (arith, end-most k m, lesser-most (someone k) (endNext t left D k m) (t + getD left (getD D k 0) 0))
-
-  end-counts : (k m d : ℕ) → d < k → someone d ≡ true → endNext t left D k m ≤ t + getD left (getD D d 0) 0
-  unfolding endNext endWith
-  end-counts zero m d h e = absurd (omega arith)
-  end-counts (suc k) m d h e = by-test (ltb d k)
-      (λ q. omega (
-        arith,
-        end-counts k m d (ltb-true d k q) e,
-        lesser-most (someone k) (endNext t left D k m) (t + getD left (getD D k 0) 0),
-      ))
-      (λ q. let z : d ≡ k = omega (arith, ltb-false d k q) in
-      rw z (lesser-counts (someone k) (endNext t left D k m) (t + getD left (getD D k 0) 0) (rw z at e)))
-
-  end-above : (k m : ℕ) → t < m → ((d : ℕ) → d < k → someone d ≡ true → 0 < getD left (getD D d 0) 0)
-      → t < endNext t left D k m
-  unfolding endNext endWith
-  end-above zero m h u = h
-  end-above (suc k) m h u =
-      lesser-above (someone k) (endNext t left D k m) (t + getD left (getD D k 0) 0) t
-      (end-above k m h (λ d l. u d (omega arith)))
-      (λ e. omega (arith, u k (omega arith) e))
-
-  end-from : (k m : ℕ) → (endNext t left D k m ≡ m) ⊎ ((d : ℕ) × (d < k) × (someone d ≡ true))
-  unfolding endNext endWith
-  end-from zero m = inl refl
-  end-from (suc k) m = go (lesser-from (someone k) (endNext t left D k m) (t + getD left (getD D k 0) 0)) (end-from k m)
-    where
-      go : (lesser (someone k) (endNext t left D k m) (t + getD left (getD D k 0) 0) ≡ endNext t left D k m) ⊎ (someone k ≡ true)
-          → (endNext t left D k m ≡ m) ⊎ ((d : ℕ) × (d < k) × (someone d ≡ true))
-          → (lesser (someone k) (endNext t left D k m) (t + getD left (getD D k 0) 0) ≡ m) ⊎ ((d : ℕ) × (d < suc k) × (someone d ≡ true))
-      go (inr e) ih = inr (k, omega arith, e)
-      go (inl e) (inl q) = inl (e ∙ q)
-      go (inl e) (inr w) = inr (w .0, omega (arith, w .1), w .2)
+use Rattle.steps.proofs.Earliest.{later, ready-most, ready-counts, ready-above, ready-from, end-most, end-counts, end-above, end-from}
 
 module _ (J : Job) (n : ℕ) (v : View) (s : Shown J n v) where
   -- Who stands in the table of choices is worked on, and who is worked on stands there.
@@ -138,7 +35,8 @@ module _ (J : Job) (n : ℕ) (v : View) (s : Shown J n v) where
   unfolding codeOf
   working-code d i h q = choice-is J n v s d h ∙ ap codeOf q
 
-  chosen-worked : (d : ℕ) → d < 32 → getD (choiceOf v n) d 0 < 256 → worked J d (v .moment) ≡ some (getD (choiceOf v n) d 0)
+  chosen-worked : (d : ℕ) → d < 32 → getD (choiceOf v n) d 0 < 256
+      → worked J d (v .moment) ≡ some (getD (choiceOf v n) d 0)
   chosen-worked d h l = by-choice (worked J d (v .moment))
       (λ q. absurd (omega (arith, resting-code d h q)))
       (λ i q. q ∙ ap some (sym (working-code d i h q)))
@@ -182,7 +80,8 @@ module _ (J : Job) (n : ℕ) (v : View) (s : Shown J n v) where
   unfolding nextOf
   next-ready i h l w b =
       let r : getD (v .ready) i 0 ≡ readyOf J (at J (v .moment)) i = s .ready-is i h in
-      let e : later v i ≡ true = and-intro _ _ (facts-due J n v s i h l w) (lt-ltb (v .moment) (getD (v .ready) i 0) (omega arith)) in
+      let e : later v i ≡ true = and-intro _ _ (facts-due J n v s i h l w)
+      (lt-ltb (v .moment) (getD (v .ready) i 0) (omega arith)) in
       omega (arith, end-most (v .moment) (v .left) (choiceOf v n) 32 (readyNext v n never), ready-counts v n never i h e)
 
   -- So nothing is decided until then.
@@ -226,7 +125,8 @@ module _ (J : Job) (n : ℕ) (v : View) (s : Shown J n v) where
             let u : 0 < at J (v .moment + k) i .left =
             unfinished-through J sound (v .moment) (next - v .moment) (quiet-until a) k (omega arith) i b l in
             let f : at J (v .moment + k) i .left ≡ at J (horizon J) i .left =
-            ap (λ p. p .left) (rw z at (finished-for-good J (v .moment + k - horizon J) (horizon J) i b (all-finished J sound free i b))) in
+            ap (λ p. p .left) (rw z at (finished-for-good J (v .moment + k - horizon J) (horizon J) i b
+            (all-finished J sound free i b))) in
             omega (arith, all-finished J sound free i b)
 
     -- No further moment: every piece is finished. A further moment: it lies within the horizon.

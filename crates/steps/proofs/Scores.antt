@@ -1,9 +1,8 @@
 -- The count that bounds the runs, over all pieces: it grows with every desk that is moved on, by one or more where a run
 -- begins, and stays below two for each piece as long as one is unfinished.
 use Prim.Native.Nat.{ℕ, suc, _+_, _-_, _≤_, _<_}
-use mathlib.Core.Bool.{true, false}
 use mathlib.Core.List.{List, [], _∷_, map}
-use mathlib.Core.Path.{_≡_, refl, sym, ap}
+use mathlib.Core.Path.{_≡_, refl}
 use native.Mathlib.Omega.{arith}
 use borrow.Author.Tests.{eqb-true, eqb-false}
 use lib.Dec.{eqb}
@@ -38,7 +37,8 @@ module _ (J : Job) (n : ℕ) where
 
   pub scores-less : (τ : ℕ → ℕ) (i : ℕ) → i < n → 0 < at J (τ (desk J i)) i .left → scores τ < n + n
   scores-less τ i h l =
-      let less = sum-lt (λ i. score J (τ (desk J i)) i) (λ i. 2) (below n) (λ i m. score-most J (τ (desk J i)) i) i (below-mem n i h)
+      let less = sum-lt (λ i. score J (τ (desk J i)) i) (λ i. 2) (below n) (λ i m. score-most J (τ (desk J i)) i) i
+      (below-mem n i h)
       (omega (arith, score-unfinished J (τ (desk J i)) i l)) in
       omega (arith, twice (below n), length-below n)
 
@@ -53,7 +53,8 @@ module _ (J : Job) (n : ℕ) where
     pub scores-grow : scores (momentOf t u d) ≤ scores (momentOf t u (suc d))
     scores-grow = sum-le _ _ (below n) (λ i m. score-moves i (mem-below n i m))
 
-    pub scores-rise : (x : ℕ) → x < n → desk J x ≡ d → score J t x < score J (suc t) x → scores (momentOf t u d) < scores (momentOf t u (suc d))
+    pub scores-rise : (x : ℕ) → x < n → desk J x ≡ d → score J t x < score J (suc t) x
+        → scores (momentOf t u d) < scores (momentOf t u (suc d))
     scores-rise x h z r =
         sum-lt _ _ (below n) (λ i m. score-moves i (mem-below n i m)) x (below-mem n x h)
         (rw (moment-early t u d (desk J x) (omega arith), moment-late t u (suc d) (desk J x) (omega arith))

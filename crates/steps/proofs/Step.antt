@@ -1,13 +1,12 @@
--- One step over all tables: where they hold the plan at moment t, they hold it at the next moment after the step, and where
--- there is no next moment the plan is finished.
+-- One step over all tables: where they hold the plan at moment t, they hold it at the next moment after the step, and
+-- where there is no next moment the plan is finished.
 use Prim.Native.Nat.{ℕ, _+_, _-_, _≤_, _<_}
 use mathlib.Core.List.{List}
 use mathlib.Core.Option.{none}
-use mathlib.Core.Path.{_≡_, refl, sym, ap, _∙_}
+use mathlib.Core.Path.{_≡_}
 use native.Mathlib.Omega.{arith}
-use lib.IntN.{ℤ}
 use lib.ListN.{getD}
-use Rattle.rules.specs.Job.{Job, pieceCount, desk}
+use Rattle.rules.specs.Job.{Job, desk}
 use Rattle.rules.specs.Rings.{ringPiece}
 use Rattle.rules.specs.Tables.{Sound}
 use Rattle.rules.specs.Urgency.{worked, horizon}
@@ -18,7 +17,7 @@ use Rattle.slots.proofs.Ended.{Ended}
 use Rattle.steps.specs.Choice.{View, view, choiceOf, nextOf, codeOf, never}
 use Rattle.steps.specs.Handover.{Ties, ties, Waiting, handTo}
 use Rattle.steps.specs.Log.{Log, noteTo}
-use Rattle.steps.specs.Tables.{Listed}
+use Rattle.steps.specs.Tables.{Tables, Listed}
 use Rattle.steps.specs.Work.{Work, workTo}
 use Rattle.steps.proofs.Decision.{Shown, choice-is}
 use Rattle.steps.proofs.LinkStep.{WaitHeld, hand-step}
@@ -34,22 +33,27 @@ pub record Held (J : Job) (n : ℕ) (desks : List ℕ) (t : ℕ) (w : Work) (s :
   pub waiting : WaitHeld J n (at J t) s
   pub logging : LogHeld J n desks (λ d. t) l
 
-module _ (J : Job) (sound : Sound J) (free : ringPiece J ≡ none) (n m : ℕ) (desks durations releases befores afters handovers : List ℕ)
-    (latests : List ℤ) (L : Listed J n m desks durations releases befores afters handovers latests) where
-  pub few-pieces : n ≤ 256
+module _ (J : Job) (sound : Sound J) (free : ringPiece J ≡ none) (T : Tables) (L : Listed J T) where
+  pub few-pieces : T .pieces ≤ 256
   few-pieces = rw (L .count) at (sound .few-pieces)
 
-  pub few-desks : (i : ℕ) → i < n → desk J i < 32
+  pub few-desks : (i : ℕ) → i < T .pieces → desk J i < 32
   few-desks i h = omega (arith, fits J sound i (rw (L .count) h) .desk-most)
 
-  module _ (t : ℕ) (w : Work) (s : Waiting) (l : Log) (h : Held J n desks t w s l) where
+  module _ (t : ℕ) (w : Work) (s : Waiting) (l : Log) (h : Held J (T .pieces) (T .desks) t w s l) where
     abbrev seen : View
-    seen = view t desks latests (w .left) (s .waits) (s .ready)
+    seen = view t (T .desks) (T .latests) (w .left) (s .waits) (s .ready)
+
+    abbrev next : ℕ
+    next = nextOf seen (T .pieces)
+
+    abbrev chosen : List ℕ
+    chosen = choiceOf seen (T .pieces)
 
     before-never : t < never
     before-never = omega (arith, h .in-time, horizon-most J sound free)
 
-    shown : Shown J n seen
+    shown : Shown J (T .pieces) seen
     shown = record {
       count = L .count;
       few = few-pieces;
@@ -61,41 +65,40 @@ module _ (J : Job) (sound : Sound J) (free : ringPiece J ≡ none) (n m : ℕ) (
       ready-is = h .waiting .ready-is;
     }
 
-    abbrev next : ℕ
-    next = nextOf seen n
-
     pub ahead : t < next
-    ahead = next-ahead J n seen shown before-never
+    ahead = next-ahead J (T .pieces) seen shown before-never
 
     pub at-most : next ≤ never
-    at-most = next-most J n seen shown
+    at-most = next-most J (T .pieces) seen shown
 
     pub within : next < never → next ≤ horizon J
-    within c = next-within J n seen shown sound free before-never c
+    within c = next-within J (T .pieces) seen shown sound free before-never c
 
     pub finished : next ≡ never → Ended J t
-    finished e = no-next J n seen shown sound free before-never e
+    finished e = no-next J (T .pieces) seen shown sound free before-never e
+
+    abbrev linked : Ties
+    linked = ties (T .desks) (T .befores) (T .afters) (T .handovers)
 
     abbrev works : Work
-    works = workTo durations t next (choiceOf seen n) 32 w
+    works = workTo (T .durations) t next chosen 32 w
 
     pub step : next < never
-        → Held J n desks next works (handTo (ties desks befores afters handovers) m next (works .left) (choiceOf seen n) 32 s)
-        (noteTo t next (choiceOf seen n) 32 l)
+        → Held J (T .pieces) (T .desks) next works (handTo linked (T .links) next (works .left) chosen 32 s)
+        (noteTo t next chosen 32 l)
     step c =
-        let k = next - t in
         let e : t + (next - t) ≡ next = omega (arith, ahead) in
         let p : 0 < next - t = omega (arith, ahead) in
-        let q : Stretch J t (next - t) = quiet-until J n seen shown before-never in
-        let chosen : (d : ℕ) → d < 32 → getD (choiceOf seen n) d 0 ≡ codeOf (worked J d t) = choice-is J n seen shown in
-        let done : WorkHeld n (at J next) works =
-        work-step J sound n durations t next (next - t) e p q (L .count) few-pieces (L .duration-is)
-        (choiceOf seen n) chosen few-desks w (h .working) in
+        let q : Stretch J t (next - t) = quiet-until J (T .pieces) seen shown before-never in
+        let is : (d : ℕ) → d < 32 → getD chosen d 0 ≡ codeOf (worked J d t) = choice-is J (T .pieces) seen shown in
+        let done : WorkHeld (T .pieces) (at J next) works =
+        work-step J sound (T .pieces) (T .durations) t next (next - t) e p q (L .count) few-pieces (L .duration-is)
+        chosen is few-desks w (h .working) in
         record {
           in-time = within c;
           working = done;
-          waiting = hand-step J sound n m (ties desks befores afters handovers) (L .count) few-pieces (L .desk-is) (L .links-are)
-              t next (next - t) e p q (works .left) (done .left-is) (choiceOf seen n) chosen few-desks s (h .waiting);
-          logging = note-step J sound n desks t next (next - t) e p q (L .count) few-pieces (L .desk-is) few-desks
-              (choiceOf seen n) chosen l (h .logging);
+          waiting = hand-step J sound (T .pieces) (T .links) linked (L .count) few-pieces (L .desk-is) (L .links-are)
+              t next (next - t) e p q (works .left) (done .left-is) chosen is few-desks s (h .waiting);
+          logging = note-step J sound (T .pieces) (T .desks) t next (next - t) e p q (L .count) few-pieces (L .desk-is)
+              few-desks chosen is l (h .logging);
         }

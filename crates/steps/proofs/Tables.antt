@@ -1,31 +1,33 @@
 -- A job made of tables has those tables.
-use Prim.Native.Nat.{ℕ, zero, suc, _+_, _≤_, _<_}
-use mathlib.Core.List.{List, [], _∷_, _++_, map}
-use mathlib.Core.Path.{_≡_, refl, sym, ap, _∙_}
+use Prim.Native.Nat.{ℕ, zero, suc, _+_, _<_}
+use mathlib.Core.List.{List, [], _∷_, _++_}
+use mathlib.Core.Path.{_≡_, refl, ap, _∙_}
 use native.Mathlib.Omega.{arith}
-use lib.IntN.{ℤ, pos}
-use lib.ListN.{length, getD, length-map}
+use lib.IntN.{pos}
+use lib.ListN.{getD, length-map}
 use Rattle.rules.specs.Words.{row, below}
-use Rattle.rules.specs.Job.{Job, pieceCount, piece, desk, duration, noPiece}
+use Rattle.rules.specs.Job.{Job, piece, desk, duration, noPiece}
 use Rattle.rules.specs.Moments.{latest}
-use Rattle.rules.specs.Tables.{pieceIn, linkIn, piecesIn, linksIn, jobIn}
-use Rattle.rules.specs.declared.Piece.{Piece}
+use Rattle.rules.specs.Tables.{pieceIn, piecesIn, linksIn, jobIn}
 use Rattle.laws.proofs.Words.{length-below, getD-below}
-use Rattle.steps.specs.Tables.{Listed}
+use Rattle.steps.specs.Tables.{Tables, Listed}
 
-module _ (n m : ℕ) (desks durations releases dues befores afters handovers : List ℕ) where
-  abbrev tabled : Job
-  tabled = jobIn n m desks durations releases dues befores afters handovers
+-- The job that the tables and a table of dues make.
+abbrev pub jobOf : Tables → List ℕ → Job
+jobOf T dues =
+    jobIn (T .pieces) (T .links) (T .desks) (T .durations) (T .releases) dues (T .befores) (T .afters) (T .handovers)
 
-  piece-is : (i : ℕ) → i < n → piece tabled i ≡ pieceIn desks durations releases dues i
+module _ (T : Tables) (dues : List ℕ) where
+  piece-is : (i : ℕ) → i < T .pieces → piece (jobOf T dues) i ≡ pieceIn (T .desks) (T .durations) (T .releases) dues i
   unfolding jobIn piecesIn
-  piece-is i h = getD-below (pieceIn desks durations releases dues) noPiece n i h
+  piece-is i h = getD-below (pieceIn (T .desks) (T .durations) (T .releases) dues) noPiece (T .pieces) i h
 
-  pub listed : (latests : List ℤ) → ((i : ℕ) → i < n → getD latests i (pos 0) ≡ latest tabled i)
-      → Listed tabled n m desks durations releases befores afters handovers latests
+  pub listed : ((i : ℕ) → i < T .pieces → getD (T .latests) i (pos 0) ≡ latest (jobOf T dues) i)
+      → Listed (jobOf T dues) T
   unfolding jobIn piecesIn linksIn pieceIn
-  listed latests h = record {
-    count = length-map (below n) (pieceIn desks durations releases dues) ∙ length-below n;
+  listed h = record {
+    count = length-map (below (T .pieces)) (pieceIn (T .desks) (T .durations) (T .releases) dues)
+        ∙ length-below (T .pieces);
     desk-is = λ i l. ap (λ p. p .desk) (piece-is i l);
     duration-is = λ i l. ap (λ p. p .duration) (piece-is i l);
     release-is = λ i l. ap (λ p. p .release) (piece-is i l);

@@ -1,12 +1,11 @@
--- The slots worked at once, over the tables: after the first d desks the tables say how far the pieces are with these desks
--- moved on.
+-- The slots worked at once, over the tables: after the first d desks the tables say how far the pieces are with these
+-- desks moved on.
 use Prim.Native.Nat.{ℕ, zero, suc, _+_, _-_, _≤_, _<_}
-use mathlib.Core.Bool.{true, false}
 use mathlib.Core.List.{List}
-use mathlib.Core.Option.{none, some}
-use mathlib.Core.Path.{_≡_, refl, sym, ap, _∙_}
+use mathlib.Core.Option.{some}
+use mathlib.Core.Path.{_≡_, sym, ap, _∙_}
 use native.Mathlib.Omega.{arith}
-use borrow.Author.Tests.{ltb-true, lt-ltb, le-ltb, eqb-true, eqb-false}
+use borrow.Author.Tests.{lt-ltb, le-ltb, eqb-true, eqb-false}
 use lib.Dec.{ltb, eqb}
 use lib.ListN.{length, getD, set, length-set}
 use lib.Seq.{getD-set-same, getD-set-other}
@@ -31,7 +30,8 @@ pub record WorkHeld (n : ℕ) (P : ℕ → Progress) (w : Work) : Type 0 where
   pub finish-is : (i : ℕ) → i < n → getD (w .finish) i 0 ≡ P i .finish
 
 -- The same for pieces that are equally far.
-pub work-alike : (n : ℕ) (P Q : ℕ → Progress) (w : Work) → ((i : ℕ) → i < n → Q i ≡ P i) → WorkHeld n P w → WorkHeld n Q w
+pub work-alike : (n : ℕ) (P Q : ℕ → Progress) (w : Work) → ((i : ℕ) → i < n → Q i ≡ P i) → WorkHeld n P w
+    → WorkHeld n Q w
 work-alike n P Q w e h = record {
   left-sized = h .left-sized;
   start-sized = h .start-sized;
@@ -68,7 +68,8 @@ module _ (J : Job) (sound : Sound J) (n : ℕ) (durations : List ℕ) (t u k : �
       let slots : u - t ≡ k = omega arith in
       record {
         left-sized = length-set (w .left) i (getD (w .left) i 0 - (u - t)) ∙ h .left-sized;
-        start-sized = length-set (w .start) i (when (eqb (getD (w .left) i 0) (getD durations i 0)) t (getD (w .start) i 0)) ∙ h .start-sized;
+        start-sized = length-set (w .start) i (when (eqb (getD (w .left) i 0) (getD durations i 0)) t
+            (getD (w .start) i 0)) ∙ h .start-sized;
         finish-sized = length-set (w .finish) i u ∙ h .finish-sized;
         left-is = stored (w .left) n i (getD (w .left) i 0 - (u - t)) (λ j. P j .left) (λ j. Q j .left)
             (omega (arith, h .left-sized)) (h .left-is) (rw (whole, slots) (sym (ap (λ r. r .left) to)))
@@ -105,9 +106,11 @@ module _ (J : Job) (sound : Sound J) (n : ℕ) (durations : List ℕ) (t u k : �
 
   -- All of them: the tables say how far the pieces are at moment u.
   pub work-step : (chosen : List ℕ) → ((d : ℕ) → d < 32 → getD chosen d 0 ≡ codeOf (worked J d t))
-      → ((i : ℕ) → i < n → desk J i < 32) → (w : Work) → WorkHeld n (at J t) w → WorkHeld n (at J u) (workTo durations t u chosen 32 w)
+      → ((i : ℕ) → i < n → desk J i < 32) → (w : Work) → WorkHeld n (at J t) w
+      → WorkHeld n (at J u) (workTo durations t u chosen 32 w)
   work-step chosen c few-desks w h =
       work-alike n (standing J (momentOf t u 32)) (at J u) (workTo durations t u chosen 32 w)
       (λ i l. ap (λ x. at J x i) (sym (moment-late t u 32 (desk J i) (few-desks i l))))
       (work-desks chosen c 32 (omega arith) w
-      (work-alike n (at J t) (standing J (momentOf t u 0)) w (λ i l. ap (λ x. at J x i) (moment-early t u 0 (desk J i) (omega arith))) h))
+      (work-alike n (at J t) (standing J (momentOf t u 0)) w
+      (λ i l. ap (λ x. at J x i) (moment-early t u 0 (desk J i) (omega arith))) h))

@@ -4,6 +4,7 @@ use Prim.Native.Nat.{ℕ, zero, suc, _+_, min}
 use mathlib.Core.Bool.{Bool, true, _&&_}
 use mathlib.Core.List.{List}
 use mathlib.Core.Option.{Option, none, some}
+use mathlib.Core.Path.{_≡_}
 use lib.Dec.{leb, ltb, eqb}
 use lib.IntN.{ℤ, pos}
 use lib.ListN.{getD, set, replicate}
@@ -43,7 +44,8 @@ module _ (v : View) where
   unfoldable pub consideredBy : ℕ → List ℕ → List ℕ
   unfolding when isDue offered
   consideredBy i chosen =
-      when (isDue i && leb (getD (v .ready) i 0) (v .moment)) (offered (v .latests) i (getD (v .desks) i 0) chosen) chosen
+      when (isDue i && leb (getD (v .ready) i 0) (v .moment))
+      (offered (v .latests) i (getD (v .desks) i 0) chosen) chosen
 
   unfoldable pub momentWith : ℕ → ℕ → ℕ
   unfolding when isDue
@@ -81,6 +83,20 @@ choiceOf v n = chosenFrom v n (replicate 32 256)
 
 unfoldable pub nextOf : View → ℕ → ℕ
 nextOf v n = endNext (v .moment) (v .left) (choiceOf v n) 32 (readyNext v n never)
+
+-- What becomes of the choices and of the next moment: after piece i was looked at, after the first n pieces were, and
+-- in the whole decision.
+pub record Considered (v : View) (i : ℕ) (chosen : List ℕ) (next : ℕ) (chosen′ : List ℕ) (next′ : ℕ) : Type 0 where
+  pub chosen-is : chosen′ ≡ consideredBy v i chosen
+  pub next-is : next′ ≡ momentWith v i next
+
+pub record LookedAt (v : View) (n : ℕ) (chosen chosen′ : List ℕ) (next′ : ℕ) : Type 0 where
+  pub chosen-is : chosen′ ≡ chosenFrom v n chosen
+  pub next-is : next′ ≡ readyNext v n never
+
+pub record Decided (v : View) (n : ℕ) (chosen′ : List ℕ) (next′ : ℕ) : Type 0 where
+  pub chosen-is : chosen′ ≡ choiceOf v n
+  pub next-is : next′ ≡ nextOf v n
 
 -- The number that stands for who a desk works on.
 unfoldable pub codeOf : Option ℕ → ℕ

@@ -1,7 +1,7 @@
 -- Tables filled from the front, one place more at a time.
-use Prim.Native.Nat.{ℕ, _+_, _≤_, _<_}
+use Prim.Native.Nat.{ℕ, _+_, _<_}
 use mathlib.Core.List.{List}
-use mathlib.Core.Path.{_≡_, refl, sym, ap, _∙_}
+use mathlib.Core.Path.{_≡_, refl, _∙_}
 use native.Mathlib.Omega.{arith}
 use borrow.Author.Tests.{eqb-true, eqb-false}
 use lib.Dec.{eqb}
@@ -31,14 +31,16 @@ begun-none durations releases left ready starts finishes a b c d = record {
 
 pub begun-more : (durations releases left ready starts finishes : List ℕ) (i x : ℕ) → i < 256 → x ≡ getD durations i 0
     → Begun i durations releases left ready starts finishes
-    → Begun (i + 1) durations releases (set left i x) (set ready i (getD releases i 0)) (set starts i 0) (set finishes i 0)
+    → Begun (i + 1) durations releases (set left i x) (set ready i (getD releases i 0)) (set starts i 0)
+    (set finishes i 0)
 begun-more durations releases left ready starts finishes i x b e h = record {
   left-sized = length-set left i x ∙ h .left-sized;
   ready-sized = length-set ready i (getD releases i 0) ∙ h .ready-sized;
   starts-sized = length-set starts i 0 ∙ h .starts-sized;
   finishes-sized = length-set finishes i 0 ∙ h .finishes-sized;
   left-is = filled left i x (λ j. getD durations j 0) (omega (arith, h .left-sized)) (h .left-is) e;
-  ready-is = filled ready i (getD releases i 0) (λ j. getD releases j 0) (omega (arith, h .ready-sized)) (h .ready-is) refl;
+  ready-is = filled ready i (getD releases i 0) (λ j. getD releases j 0) (omega (arith, h .ready-sized))
+      (h .ready-is) refl;
   start-is = filled starts i 0 (λ j. 0) (omega (arith, h .starts-sized)) (h .start-is) refl;
   finish-is = filled finishes i 0 (λ j. 0) (omega (arith, h .finishes-sized)) (h .finish-is) refl;
 }

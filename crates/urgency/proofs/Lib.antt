@@ -1,9 +1,3 @@
--- How the tables' definitions go on by one piece, desk or link, and what they say of the plan.
-pub mod Turns
-pub mod Considered
-pub mod Worked
-pub mod Noted
-pub mod Counted
-pub mod Passed
+-- The tables before the first slot, and from the contract's side to the steps'.
 pub mod Filled
 pub mod Planned

@@ -1,15 +1,13 @@
--- From the contract's side to the steps': the tables given make a job whose plan they hold step by step, and where no step
--- is left the tables have the whole plan.
-use Prim.Native.Nat.{ℕ, _+_, _≤_, _<_}
-use mathlib.Core.List.{List, map}
+-- From the contract's side to the steps': the tables given make a job whose plan they hold step by step, and where no
+-- step is left the tables have the whole plan.
+use Prim.Native.Nat.{ℕ, _≤_, _<_}
+use mathlib.Core.List.{List}
 use mathlib.Core.Path.{_≡_, refl, sym, ap, _∙_}
 use native.Mathlib.Omega.{arith}
-use lib.IntN.{ℤ}
 use lib.ListN.{length, getD, length-map}
 use Rattle.rules.specs.Words.{below}
-use Rattle.rules.specs.Job.{Job, pieceCount, desk}
-use Rattle.rules.specs.Runs.{runs}
-use Rattle.rules.specs.Tables.{jobIn, linkIn}
+use Rattle.rules.specs.Job.{Job, pieceCount}
+use Rattle.rules.specs.Tables.{linkIn}
 use Rattle.rules.specs.Urgency.{start, finish, horizon}
 use Rattle.rules.specs.declared.Link.{Link}
 use Rattle.laws.proofs.Finishing.{all-finished, horizon-most}
@@ -18,49 +16,53 @@ use Rattle.laws.proofs.Words.{length-below, mem-map, below-mem}
 use Rattle.slots.specs.Stretch.{at}
 use Rattle.slots.proofs.Ended.{Ended, ended-same, ended-runs}
 use Rattle.slots.proofs.Growth.{runs-grown}
-use Rattle.steps.specs.Choice.{view, choiceOf, nextOf, never}
+use Rattle.steps.specs.Choice.{View, view, Decided, never}
 use Rattle.steps.specs.Handover.{intoOf, Named, ties, Waiting, waiting, handTo}
 use Rattle.steps.specs.Log.{Log, log, noteTo}
-use Rattle.steps.specs.Tables.{Listed}
+use Rattle.steps.specs.Tables.{Tables, Listed}
 use Rattle.steps.specs.Work.{Work, work, workTo}
 use Rattle.steps.proofs.Begin.{begun-work, begun-waits, begun-log}
 use Rattle.steps.proofs.Scores.{scores-most}
 use Rattle.steps.proofs.Step.{Held, few-pieces, few-desks, ahead, at-most, within, finished, step}
-use Rattle.steps.proofs.Tables.{listed}
-use Rattle.urgency.specs.Plan.{Given, Sized, Planned, Begun}
+use Rattle.steps.proofs.Tables.{jobOf, listed}
+use Rattle.urgency.specs.Plan.{Given, Planned, Begun}
 
-module _ (n m : ℕ) (desks durations releases dues befores afters handovers : List ℕ) (latests : List ℤ) where
+module _ (T : Tables) (dues : List ℕ) where
   abbrev pub job : Job
-  job = jobIn n m desks durations releases dues befores afters handovers
+  job = jobOf T dues
+
+  abbrev pub seen : ℕ → Work → Waiting → View
+  seen t w s = view t (T .desks) (T .latests) (w .left) (s .waits) (s .ready)
 
   -- The loop stands at moment t, with the next moment and the choices decided.
   pub record Going (t next : ℕ) (w : Work) (s : Waiting) (l : Log) (chosen : List ℕ) : Type 0 where
-    pub held : Held job n desks t w s l
-    pub chosen-is : chosen ≡ choiceOf (view t desks latests (w .left) (s .waits) (s .ready)) n
-    pub next-is : next ≡ nextOf (view t desks latests (w .left) (s .waits) (s .ready)) n
+    pub held : Held job (T .pieces) (T .desks) t w s l
+    pub decided : Decided (seen t w s) (T .pieces) chosen next
 
-  module _ (g : Given job n latests) where
-    tables : Listed job n m desks durations releases befores afters handovers latests
-    tables = listed n m desks durations releases dues befores afters handovers latests (g .latest-is)
+  module _ (g : Given job (T .pieces) (T .latests)) where
+    lists : Listed job T
+    lists = listed T dues (g .latest-is)
 
-    pub few : n ≤ 256
-    few = few-pieces job (g .sound) (g .free) n m desks durations releases befores afters handovers latests tables
+    pub few : T .pieces ≤ 256
+    few = few-pieces job (g .sound) (g .free) T lists
 
-    pub desks-few : (i : ℕ) → i < n → getD desks i 0 < 32
-    desks-few i h =
-        rw (tables .desk-is i h) at (few-desks job (g .sound) (g .free) n m desks durations releases befores afters handovers latests tables i h)
+    pub desks-few : (i : ℕ) → i < T .pieces → getD (T .desks) i 0 < 32
+    desks-few i h = rw (lists .desk-is i h) at (few-desks job (g .sound) (g .free) T lists i h)
 
     -- The links name pieces of the job.
-    fit : (k : ℕ) → k < m → LinkFits (pieceCount job) (linkIn befores afters handovers k)
-    fit k h =
-        link-fit job (g .sound) (linkIn befores afters handovers k)
-        (rw (tables .links-are) (mem-map (linkIn befores afters handovers) (below m) k (below-mem m k h)))
+    abbrev link : ℕ → Link
+    link = linkIn (T .befores) (T .afters) (T .handovers)
 
-    pub named : Named m befores afters
+    fit : (k : ℕ) → k < T .links → LinkFits (pieceCount job) (link k)
+    fit k h =
+        link-fit job (g .sound) (link k) (rw (lists .links-are)
+        (mem-map link (below (T .links)) k (below-mem (T .links) k h)))
+
+    pub named : Named (T .links) (T .befores) (T .afters)
     unfolding linkIn
     named =
-        let count : length (job .links) ≡ m =
-        ap length (tables .links-are) ∙ length-map (below m) (linkIn befores afters handovers) ∙ length-below m in
+        let count : length (job .links) ≡ T .links =
+        ap length (lists .links-are) ∙ length-map (below (T .links)) link ∙ length-below (T .links) in
         record {
           few = rw count at (g .sound .few-links);
           before-one = λ k h. omega (arith, fit k h .before-one, g .sound .few-pieces);
@@ -69,67 +71,65 @@ module _ (n m : ℕ) (desks durations releases dues befores afters handovers : L
 
     -- Before the first slot.
     pub before-first : (left ready starts finishes waits last pieces froms untils : List ℕ)
-        → Begun n durations releases left ready starts finishes → length waits ≡ 256
-        → ((i : ℕ) → i < 256 → getD waits i 0 ≡ intoOf afters i m) → length last ≡ 32
+        → Begun (T .pieces) (T .durations) (T .releases) left ready starts finishes → length waits ≡ 256
+        → ((i : ℕ) → i < 256 → getD waits i 0 ≡ intoOf (T .afters) i (T .links)) → length last ≡ 32
         → ((d : ℕ) → d < 32 → getD last d 0 ≡ 512) → length pieces ≡ 512 → length froms ≡ 512 → length untils ≡ 512
-        → Held job n desks 0 (work left starts finishes) (waiting waits ready) (log 0 last pieces froms untils)
+        → Held job (T .pieces) (T .desks) 0 (work left starts finishes) (waiting waits ready)
+        (log 0 last pieces froms untils)
     before-first left ready starts finishes waits last pieces froms untils b ws w ls l ps fs us = record {
       in-time = omega arith;
-      working = begun-work job (g .sound) n (tables .count) durations (tables .duration-is) (work left starts finishes)
-          (b .left-sized) (b .starts-sized) (b .finishes-sized) (b .left-is) (b .start-is) (b .finish-is);
-      waiting = begun-waits job (g .sound) n (tables .count) m releases befores afters handovers (tables .release-is)
-          (tables .links-are) (waiting waits ready) ws (b .ready-sized) (λ i h. w i (omega (arith, few))) (b .ready-is);
-      logging = begun-log job (g .sound) n (tables .count) desks (log 0 last pieces froms untils) refl ls ps fs us l;
+      working = begun-work job (g .sound) (T .pieces) (lists .count) (T .durations) (lists .duration-is)
+          (work left starts finishes) (b .left-sized) (b .starts-sized) (b .finishes-sized) (b .left-is) (b .start-is)
+          (b .finish-is);
+      waiting = begun-waits job (g .sound) (T .pieces) (lists .count) (T .links) (T .releases) (T .befores) (T .afters)
+          (T .handovers) (lists .release-is) (lists .links-are) (waiting waits ready) ws (b .ready-sized)
+          (λ i h. w i (omega (arith, few))) (b .ready-is);
+      logging = begun-log job (g .sound) (T .pieces) (lists .count) (T .desks) (log 0 last pieces froms untils)
+          refl ls ps fs us l;
     }
 
     module _ (t next : ℕ) (w : Work) (s : Waiting) (l : Log) (chosen : List ℕ) (h : Going t next w s l chosen) where
       pub next-ahead : t < next
-      next-ahead = rw (h .next-is)
-          (ahead job (g .sound) (g .free) n m desks durations releases befores afters handovers latests tables t w s l (h .held))
+      next-ahead = rw (h .decided .next-is) (ahead job (g .sound) (g .free) T lists t w s l (h .held))
 
       pub next-within : next < never → next ≤ horizon job
-      next-within c = rw (h .next-is)
-          (within job (g .sound) (g .free) n m desks durations releases befores afters handovers latests tables t w s l (h .held)
-          (rw (h .next-is) at c))
+      next-within c =
+          rw (h .decided .next-is)
+          (within job (g .sound) (g .free) T lists t w s l (h .held) (rw (h .decided .next-is) at c))
 
       pub next-small : next < never → next ≤ 408160
       next-small c = omega (arith, next-within c, horizon-most job (g .sound) (g .free))
 
       -- One step more, with what the code made of the tables.
-      pub goes : next < never → (w′ : Work) (s′ : Waiting) (l′ : Log) → w′ ≡ workTo durations t next chosen 32 w
-          → l′ ≡ noteTo t next chosen 32 l → s′ ≡ handTo (ties desks befores afters handovers) m next (w′ .left) chosen 32 s
-          → Held job n desks next w′ s′ l′
+      pub goes : next < never → (w′ : Work) (s′ : Waiting) (l′ : Log) → w′ ≡ workTo (T .durations) t next chosen 32 w
+          → l′ ≡ noteTo t next chosen 32 l
+          → s′ ≡ handTo (ties (T .desks) (T .befores) (T .afters) (T .handovers)) (T .links) next (w′ .left) chosen 32 s
+          → Held job (T .pieces) (T .desks) next w′ s′ l′
       goes c w′ s′ l′ a b d =
-          let k = step job (g .sound) (g .free) n m desks durations releases befores afters handovers latests tables t w s l (h .held)
-          (rw (h .next-is) at c) in
-          rw (d, b, a, h .chosen-is, h .next-is) k
+          let k = step job (g .sound) (g .free) T lists t w s l (h .held) (rw (h .decided .next-is) at c) in
+          rw (d, b, a, h .decided .chosen-is, h .decided .next-is) k
 
       -- No step is left.
       all-done : never ≤ next → Ended job t
       all-done c =
-          finished job (g .sound) (g .free) n m desks durations releases befores afters handovers latests tables t w s l (h .held)
-          (sym (h .next-is) ∙ top)
-        where
-          top : next ≡ never
-          top = omega (
-            arith,
-            h .next-is,
-            at-most job (g .sound) (g .free) n m desks durations releases befores afters handovers latests tables t w s l (h .held),
-          )
+          finished job (g .sound) (g .free) T lists t w s l (h .held)
+          (omega (arith, h .decided .next-is, at-most job (g .sound) (g .free) T lists t w s l (h .held)))
 
-      pub planned : never ≤ next → Planned job n desks (w .start) (w .finish) (l .piece) (l .from) (l .until) (l .runs)
+      pub planned : never ≤ next
+          → Planned job (T .pieces) (T .desks) (w .start) (w .finish) (l .piece) (l .from) (l .until) (l .runs)
       unfolding start finish
       planned c =
           let e : Ended job t = all-done c in
           let f : Ended job (horizon job) = all-finished job (g .sound) (g .free) in
-          let same : (i : ℕ) → i < n → at job t i ≡ at job (horizon job) i =
-          λ i b. ended-same job t (horizon job) e f i (rw (tables .count) b) in
+          let same : (i : ℕ) → i < T .pieces → at job t i ≡ at job (horizon job) i =
+          λ i b. ended-same job t (horizon job) e f i (rw (lists .count) b) in
           record {
             start-is = λ i b. h .held .working .start-is i b ∙ ap (λ p. p .start) (same i b);
             finish-is = λ i b. h .held .working .finish-is i b ∙ ap (λ p. p .finish) (same i b);
-            runs-are = λ d b. h .held .logging .runs-are d b ∙ ended-runs job t (horizon job) e f d ∙ sym (runs-grown job d);
+            runs-are = λ d b.
+                h .held .logging .runs-are d b ∙ ended-runs job t (horizon job) e f d ∙ sym (runs-grown job d);
             inside = h .held .logging .inside;
-            few = omega (arith, h .held .logging .few, scores-most job n (λ d. t));
+            few = omega (arith, h .held .logging .few, scores-most job (T .pieces) (λ d. t));
             sized = record {
               starts-sized = h .held .working .start-sized;
               finishes-sized = h .held .working .finish-sized;

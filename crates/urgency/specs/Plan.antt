@@ -10,7 +10,7 @@ use Rattle.rules.specs.Job.{Job}
 use Rattle.rules.specs.Moments.{latest}
 use Rattle.rules.specs.Rings.{ringPiece}
 use Rattle.rules.specs.Runs.{runs}
-use Rattle.rules.specs.Tables.{Sound, jobIn}
+use Rattle.rules.specs.Tables.{Sound}
 use Rattle.rules.specs.Urgency.{start, finish}
 use Rattle.steps.specs.Log.{loggedRuns}
 
@@ -28,8 +28,8 @@ pub record Sized (starts finishes pieces froms untils : List ℕ) : Type 0 where
   pub froms-sized : length froms ≡ 512
   pub untils-sized : length untils ≡ 512
 
--- The plan of the job: start and finish of every piece, and the log, whose first `count` places have the runs of every desk
--- in the order in which they begin. A run's desk is that of its piece.
+-- The plan of the job: start and finish of every piece, and the log, whose first `count` places have the runs of
+-- every desk in the order in which they begin. A run's desk is that of its piece.
 pub record Planned (J : Job) (n : ℕ) (desks starts finishes pieces froms untils : List ℕ) (count : ℕ) : Type 0 where
   pub start-is : (i : ℕ) → i < n → getD starts i 0 ≡ start J i
   pub finish-is : (i : ℕ) → i < n → getD finishes i 0 ≡ finish J i

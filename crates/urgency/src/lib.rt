@@ -1,10 +1,9 @@
-// The plan by urgency, by decision moments: from one moment at which some piece becomes ready or is finished to the next,
-// never slot by slot. The pieces and links come in lent tables, and so do start, finish and the log of the runs.
-mod choice;
-mod handover;
-mod log;
-mod work;
-
+// The plan by urgency, by decision moments: from one moment at which some piece becomes ready or is finished to the
+// next, never slot by slot. The pieces and links come in lent tables, and so do start, finish and the log of the
+// runs.
+use moving::handover;
+use moving::log;
+use moving::work;
 ghost use mathlib.Core.Path.{_≡_};
 ghost use Prim.Native.Nat.{_≤_};
 ghost use lib.ListN.{length};
@@ -22,13 +21,14 @@ fn begin(
     finish: &mut [u32; 256],
 )
     requires { ⌜ n ≤ 256 ⌝ }
-    requires { ⌜ (length (now left) ≡ 256) × (length (now ready) ≡ 256) × (length (now start) ≡ 256) × (length (now finish) ≡ 256) ⌝ }
+    requires { ⌜ (length (now left) ≡ 256) × (length (now ready) ≡ 256) × (length (now start) ≡ 256)
+        × (length (now finish) ≡ 256) ⌝ }
     ensures { λ _. ⌜ Begun n (now (durations .entry)) (now (releases .entry)) (now (left .exit)) (now (ready .exit))
         (now (start .exit)) (now (finish .exit)) ⌝ }
 {
     let mut i = 0;
     while i < n {
-        left[i] = work::wide(durations[i]);
+        left[i] = numbers::wide(durations[i]);
         ready[i] = releases[i];
         start[i] = 0;
         finish[i] = 0;
@@ -36,8 +36,9 @@ fn begin(
     }
 }
 
-// The plan of n pieces and m links. It fills start and finish of every piece and the log of the runs, in the order in which
-// they begin, and returns the count of the runs.
+// The plan of n pieces and m links. It fills start and finish of every piece and the log of the runs, in the order in
+// which they begin, and returns the count of the runs. The latest moments say all that urgency asks of the dues; the job
+// of the contract has them, so they are lent too.
 pub fn plan(
     n: usize,
     m: usize,
@@ -55,11 +56,11 @@ pub fn plan(
     from: &mut [u32; 512],
     until: &mut [u32; 512],
 ) -> usize
-    requires { ⌜ Given (jobIn n m (now desks) (now durations) (now releases) (now dues) (now befores) (now afters) (now handovers))
-        n (now latests) ⌝ }
+    requires { ⌜ Given (jobIn n m (now desks) (now durations) (now releases) (now dues) (now befores) (now afters)
+        (now handovers)) n (now latests) ⌝ }
     requires { ⌜ Sized (now start) (now finish) (now piece) (now from) (now until) ⌝ }
-    ensures { λ r. ⌜ Planned (jobIn n m (now (desks .entry)) (now (durations .entry)) (now (releases .entry)) (now (dues .entry))
-        (now (befores .entry)) (now (afters .entry)) (now (handovers .entry))) n (now (desks .entry))
+    ensures { λ r. ⌜ Planned (jobIn n m (now (desks .entry)) (now (durations .entry)) (now (releases .entry))
+        (now (dues .entry)) (now (befores .entry)) (now (afters .entry)) (now (handovers .entry))) n (now (desks .entry))
         (now (start .exit)) (now (finish .exit)) (now (piece .exit)) (now (from .exit)) (now (until .exit)) r ⌝ }
 {
     let mut left = [0u32; 256];
@@ -74,8 +75,8 @@ pub fn plan(
     links::chains::chain_links(befores, m, &mut tail, &mut prior);
     let mut runs = 0;
     let mut t = 0;
-    let mut next = choice::decide(n, t, desks, latests, &left, &waits, &ready, &mut chosen);
-    while next < 4294967295 {
+    let mut next = deciding::decide(n, t, desks, latests, &left, &waits, &ready, &mut chosen);
+    while next < deciding::NEVER {
         work::work_all(t, next, durations, &chosen, &mut left, start, finish);
         runs = log::note_all(t, next, runs, &chosen, &mut last, piece, from, until);
         handover::hand_all(
@@ -93,7 +94,7 @@ pub fn plan(
             &mut ready,
         );
         t = next;
-        next = choice::decide(n, t, desks, latests, &left, &waits, &ready, &mut chosen);
+        next = deciding::decide(n, t, desks, latests, &left, &waits, &ready, &mut chosen);
     }
     runs
 }

@@ -1,14 +1,11 @@
+-- `begin` goes over the pieces. The loop's invariant: the first i places of the tables are as before the first slot.
 use Prim.Native.Nat.{_≤_, _-_}
 use mathlib.Core.Path.{_≡_}
 use native.Mathlib.Omega.{arith}
 use Rattle.urgency.specs.Plan.{Begun}
 use Rattle.urgency.proofs.Filled.{begun-none, begun-more}
-use borrow.Author.Needs.{needs}
 use Rattle.urgency.proofs.begin.Statement.{statement}
 use Rattle.urgency.proofs.begin.Tie as tie
-use Rattle.urgency.proofs.begin.Reads as reads
-use Rattle.urgency.proofs.begin.Lts as lts
-use Rattle.urgency.proofs.work.wide.Reads as wide-reads
 
 abbrev Inv-loop : tie.InvT-loop
 Inv-loop n durations releases left₀ ready₀ start₀ finish₀ i₀ left ready start finish i =

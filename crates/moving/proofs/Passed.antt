@@ -1,0 +1,80 @@
+-- A finished piece's links, followed along their chain: from one link of the piece to the next nothing else changes.
+use Prim.Native.Nat.{ℕ, zero, suc, _+_, _-_, _≤_, _<_, max}
+use mathlib.Core.Bool.{_&&_}
+use mathlib.Core.List.{List}
+use mathlib.Core.Path.{_≡_, refl, sym, _∙_}
+use native.Mathlib.Numerals.{add-one}
+use native.Mathlib.Omega.{arith}
+use borrow.Author.Tests.{eqb-true, eq-eqb, ne-eqb, lt-ltb, le-ltb}
+use lib.Dec.{ltb, eqb}
+use lib.ListN.{getD, set}
+use Rattle.rules.specs.Words.{when}
+use Rattle.laws.proofs.Words.{by-test, when-true, when-false}
+use Rattle.links.specs.Chains.{lastWith}
+use Rattle.steps.specs.Handover.{Ties, Waiting, waiting, delayOf, passed, passFrom, handOn, handTo}
+
+-- The last link of a piece among the first n is one of these, and the piece's own; what is passed on from there on
+-- back is all that is passed on. 0 says that there is none, and then nothing is.
+pub last-most : (befores : List ℕ) (p n : ℕ) → lastWith befores p n ≤ n
+unfolding lastWith
+last-most befores p zero = omega arith
+last-most befores p (suc n) =
+    let ih : lastWith befores p n ≤ n = last-most befores p n in
+    by-test (eqb (getD befores n 0) p) (λ e. rw (e, when) (omega arith)) (λ e. rw (e, when) (omega arith))
+
+module _ (l : Ties) (p c : ℕ) where
+  pub record Onward (s : Waiting) (n k : ℕ) : Type 0 where
+    pub below : k < n
+    pub own : getD (l .befores) k 0 ≡ p
+    pub rest : passFrom l p c n s ≡ passFrom l p c k (passed l c k s)
+
+  pub last-found : (s : Waiting) (n k : ℕ) → lastWith (l .befores) p n ≡ suc k → Onward s n k
+  unfolding lastWith passFrom
+  last-found s zero k e = absurd (omega arith)
+  last-found s (suc n) k e = by-test (eqb (getD (l .befores) n 0) p)
+      (λ q. let z : n ≡ k = omega (arith, rw (q, when) at e) in
+      rw (← z) (record { below = omega arith; own = eqb-true _ p q; rest = rw (q, when) }))
+      (λ q. let ih = last-found s n k (rw (q, when) at e) in
+      record { below = omega (arith, ih .below); own = ih .own; rest = rw (q, when) (ih .rest) })
+
+  pub last-nothing : (s : Waiting) (n : ℕ) → lastWith (l .befores) p n ≡ 0 → passFrom l p c n s ≡ s
+  unfolding lastWith passFrom
+  last-nothing s zero e = refl
+  last-nothing s (suc n) e = by-test (eqb (getD (l .befores) n 0) p)
+      (λ q. let z : suc n ≡ 0 = rw (q, when) at e in absurd (omega arith))
+      (λ q. rw (q, when) (last-nothing s n (rw (q, when) at e)))
+
+-- One link looked at, with what the code computed for it.
+pub passed-on : (l : Ties) (c k w r d : ℕ) (s : Waiting) → w ≡ getD (s .waits) (getD (l .afters) k 0) 0 - 1
+    → d ≡ delayOf l k → r ≡ max (getD (s .ready) (getD (l .afters) k 0) 0) (c + d)
+    → waiting (set (s .waits) (getD (l .afters) k 0) w) (set (s .ready) (getD (l .afters) k 0) r) ≡ passed l c k s
+passed-on l c k w r d s a e b = rw (a, b, e)
+
+pub delay-is : (l : Ties) (k h d : ℕ) → h ≡ getD (l .handovers) k 0
+    → d ≡ when (eqb (getD (l .desks) (getD (l .befores) k 0) 0) (getD (l .desks) (getD (l .afters) k 0) 0)) 0 h
+    → d ≡ delayOf l k
+unfolding delayOf
+delay-is l k h d e f = f ∙ rw e
+
+-- A piece that was worked on, by the ways the code takes, and one desk more.
+module _ (l : Ties) (m c : ℕ) (left : List ℕ) where
+  pub nobody-hands : (i : ℕ) (s : Waiting) → 255 < i → s ≡ handOn l m c left i s
+  unfolding handOn
+  nobody-hands i s h = sym (when-false (ltb i 256 && eqb (getD left i 0) 0) _ _ (rw (le-ltb i 256 h)))
+
+  pub unfinished-hands : (i : ℕ) (s : Waiting) → i ≤ 255 → 0 < getD left i 0 → s ≡ handOn l m c left i s
+  unfolding handOn
+  unfinished-hands i s h u =
+      sym (when-false (ltb i 256 && eqb (getD left i 0) 0) _ _
+      (rw (lt-ltb i 256 (omega arith)) (ne-eqb (getD left i 0) 0 (λ (z : getD left i 0 ≡ 0). omega arith))))
+
+  pub finished-hands : (i : ℕ) (s : Waiting) → i ≤ 255 → getD left i 0 ≤ 0 → passFrom l i c m s ≡ handOn l m c left i s
+  unfolding handOn
+  finished-hands i s h u =
+      sym (when-true (ltb i 256 && eqb (getD left i 0) 0) (passFrom l i c m s) s
+      (rw (lt-ltb i 256 (omega arith)) (eq-eqb (getD left i 0) 0 (omega arith))))
+
+  pub hand-more : (chosen : List ℕ) (d : ℕ) (s : Waiting)
+      → handTo l m c left chosen (d + 1) s ≡ handOn l m c left (getD chosen d 0) (handTo l m c left chosen d s)
+  unfolding handTo
+  hand-more chosen d s = rw (add-one d)
