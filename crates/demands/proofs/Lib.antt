@@ -5,6 +5,7 @@ pub mod Finishes
 pub mod EachSlot
 pub mod Starts
 pub mod OneDesk
+pub mod Agreement
 pub mod Best
 pub mod Runs
 pub mod Answers

@@ -21,7 +21,8 @@ use Rattle.rules.specs.Runs.{Run, runsFrom, turns, runs}
 use Rattle.rules.specs.Entries.{raised}
 use Rattle.rules.specs.Bytes.{resultRecord, runRecord}
 use Rattle.rules.specs.Plan.{deskRunRecords, runRecords, resultRecords, planBytes, planNumbers}
-use Rattle.laws.proofs.Words.{by-test, mem-below, length-below, sum-le, sum-same, sum-plus, map-same, map-twice, length-joined, mem-of-map, mem-of-joined, on-tail}
+use Rattle.laws.proofs.Words.{by-test, mem-below, length-below, sum-le, sum-same, map-same, on-tail}
+use Rattle.laws.proofs.Joined.{sum-plus, map-twice, length-joined, mem-of-map, mem-of-joined}
 use Rattle.laws.proofs.Sound.{fits}
 use Rattle.laws.proofs.Hours.{always-open}
 use Rattle.laws.proofs.Slots.{mem-deskPieces, deskPieces-mem, worked-chosen}
@@ -99,7 +100,7 @@ one-desk d (suc n) a h k = by-test (eqb d a)
     (λ e. let ne : d ≡ a → ⊥ = eqb-false d a e in
     rw (e, when) (omega (arith, one-desk d n (suc a) (omega arith) (omega arith))))
 
-all-desks : (on : ℕ → ℕ) (l : List ℕ) → ((i : ℕ) → Mem i l → on i < 32)
+pub all-desks : (on : ℕ → ℕ) (l : List ℕ) → ((i : ℕ) → Mem i l → on i < 32)
     → sum (map (λ d. length (keep (λ i. eqb (on i) d) l)) (below 32)) ≡ length l
 unfolding keep below
 all-desks on [] h = sum-same 0 (below 32)
@@ -119,7 +120,7 @@ desks-have-all J sound =
     all-desks (desk J) (below (pieceCount J)) (λ i m. omega (arith, fits J sound i (mem-below _ i m) .desk-most))
     ∙ length-below (pieceCount J)
 
-run-records : (J : Job) → length (runRecords J) ≡ sum (map (λ d. length (runs J d)) (below 32))
+pub run-records : (J : Job) → length (runRecords J) ≡ sum (map (λ d. length (runs J d)) (below 32))
 unfolding runRecords deskRunRecords
 run-records J =
     length-joined (map (deskRunRecords J) (below 32)) ∙ ap sum (map-twice (deskRunRecords J) length (below 32))

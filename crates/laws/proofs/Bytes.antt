@@ -23,7 +23,7 @@ signed-sized (pos n) = refl
 signed-sized (negsuc n) = refl
 
 -- A record of three words is 16 bytes long.
-record-sized : (kind d n : ℕ) (a b c : List ℕ) → length a ≡ 4 → length b ≡ 4 → length c ≡ 4 → length (planRecord kind d n a b c) ≡ 16
+pub record-sized : (kind d n : ℕ) (a b c : List ℕ) → length a ≡ 4 → length b ≡ 4 → length c ≡ 4 → length (planRecord kind d n a b c) ≡ 16
 unfolding planRecord half
 record-sized kind d n a b c p q r =
     simp length-append (omega arith)

@@ -1,5 +1,6 @@
 -- Laws by topic: of the shared words, of rings.
 pub mod Words
+pub mod Joined
 pub mod Rings
 pub mod Sound
 pub mod Signed

@@ -298,33 +298,3 @@ keep-length p [] = omega arith
 keep-length p (y ∷ ys) =
     let ih : length (keep p ys) ≤ length ys = keep-length p ys in
     by-test (p y) (λ e. rw (e, when) (omega arith)) (λ e. rw (e, when) (omega arith))
-
--- Lists one behind the other: as long as all of them together.
-pub length-joined : {A : Type 0} (ls : List (List A)) → length (joined ls) ≡ sum (map length ls)
-unfolding joined sum
-length-joined [] = refl
-length-joined (l ∷ ls) = length-append l (joined ls) ∙ ap (λ n. length l + n) (length-joined ls)
-
-pub map-twice : {A B C : Type 0} (f : A → B) (g : B → C) (l : List A) → map g (map f l) ≡ map (λ x. g (f x)) l
-map-twice f g [] = refl
-map-twice f g (x ∷ xs) = ap (λ r. g (f x) ∷ r) (map-twice f g xs)
-
-pub sum-plus : {A : Type 0} (f g : A → ℕ) (l : List A) → sum (map (λ x. f x + g x) l) ≡ sum (map f l) + sum (map g l)
-unfolding sum
-sum-plus f g [] = refl
-sum-plus f g (x ∷ xs) =
-    let ih : sum (map (λ x. f x + g x) xs) ≡ sum (map f xs) + sum (map g xs) = sum-plus f g xs in omega arith
-
--- Where a member of such a list comes from.
-pub mem-of-map : {A B : Type 0} (f : A → B) (l : List A) (y : B) → Mem y (map f l) → (x : A) × Mem x l × (y ≡ f x)
-mem-of-map f (x ∷ xs) y (here e) = (x, here refl, e)
-mem-of-map f (x ∷ xs) y (there m) = let w = mem-of-map f xs y m in (w .0, there (w .1), w .2)
-
-pub mem-of-joined : {A : Type 0} (ls : List (List A)) (x : A) → Mem x (joined ls) → (l : List A) × Mem l ls × Mem x l
-unfolding joined
-mem-of-joined (l ∷ ls) x m = go (List·Memᴰ·append-cases l m) (mem-of-joined ls x)
-  where
-    go : Mem x l ⊎ Mem x (joined ls) → (Mem x (joined ls) → (k : List _) × Mem k ls × Mem x k)
-        → (k : List _) × Mem k (l ∷ ls) × Mem x k
-    go (inl n) ih = (l, here refl, n)
-    go (inr n) ih = let w = ih n in (w .0, there (w .1), w .2)

@@ -1,6 +1,6 @@
 -- Chains of links with the same key, as `chain_links` lays them: from the last such link back to the first.
 use Prim.Native.Nat.{ℕ, zero, suc, _≤_, _<_}
-use mathlib.Core.List.{List}
+use mathlib.Core.List.{List, [], _∷_}
 use mathlib.Core.Path.{_≡_}
 use lib.Dec.{eqb}
 use lib.ListN.{length, getD}
@@ -11,6 +11,12 @@ unfoldable pub lastWith : List ℕ → ℕ → ℕ → ℕ
 unfolding when
 lastWith keys i zero = 0
 lastWith keys i (suc k) = when (eqb (getD keys k 0) i) (suc k) (lastWith keys i k)
+
+-- The places of the keys that are i, among the first n, from the last to the first.
+unfoldable pub placesWith : List ℕ → ℕ → ℕ → List ℕ
+unfolding when
+placesWith keys i zero = []
+placesWith keys i (suc k) = when (eqb (getD keys k 0) i) (k ∷ placesWith keys i k) (placesWith keys i k)
 
 -- The chains of the first n keys, in tables for 256 pieces and 1,024 links.
 pub record Chained (keys : List ℕ) (n : ℕ) (last prior : List ℕ) : Type 0 where

@@ -5,7 +5,7 @@ use mathlib.Core.Path.{_≡_, refl, sym, ap, _∙_}
 use native.Mathlib.Omega.{arith}
 use Rattle.rules.specs.Words.{when}
 use Rattle.rules.specs.DeskRuns.{firstFrom}
-use Rattle.laws.proofs.Words.{when-true, when-false}
+use Rattle.laws.proofs.Words.{by-test, when-true, when-false}
 
 module _ (wanted : ℕ → Bool) (whole k : ℕ) where
   pub first-here : k < whole → wanted k ≡ true → firstFrom wanted (whole - k) k ≡ k
@@ -21,3 +21,13 @@ module _ (wanted : ℕ → Bool) (whole k : ℕ) where
   pub first-nowhere : whole ≤ k → firstFrom wanted (whole - k) k ≡ k
   unfolding firstFrom
   first-nowhere h = let q : whole - k ≡ 0 = omega arith in rw q
+
+-- The answer lies among the records looked at, or right behind them.
+pub first-within : (wanted : ℕ → Bool) (n k : ℕ) → (k ≤ firstFrom wanted n k) × (firstFrom wanted n k ≤ k + n)
+unfolding firstFrom when
+first-within wanted zero k = (omega arith, omega arith)
+first-within wanted (suc n) k =
+    let ih = first-within wanted n (k + 1) in
+    by-test (wanted k)
+    (λ e. rw (e, when) (omega arith, omega arith))
+    (λ e. rw (e, when) (omega (arith, ih .0), omega (arith, ih .1)))

@@ -1,3 +1,5 @@
+-- What the proofs of this crate share.
 pub mod FirstFrom
+pub mod StretchLaws
 pub mod Stores
 pub mod TwosComplement

@@ -4,8 +4,8 @@ ghost use mathlib.Core.Bool.{_&&_};
 ghost use Prim.Native.Nat.{_+_, _*_, _≤_, _<_};
 ghost use lib.ListN.{length};
 ghost use Rattle.rules.specs.File.{wholeRecords};
-ghost use Rattle.rules.specs.DeskRuns.{isRunOf, firstRun, pastLastRun};
-ghost use Rattle.records.specs.Handed.{Handed};
+ghost use Rattle.rules.specs.DeskRuns.{isRunOf, firstRun};
+ghost use Rattle.records.specs.Handed.{PastLast, Bounds, Handed};
 
 // Record k is a run of the desk.
 fn is_run_of(records: &[u8], desk: u8, k: usize) -> bool
@@ -37,7 +37,7 @@ fn first_run(records: &[u8], desk: u8) -> usize
 // One past the last record of the stretch that begins at record k.
 fn past_last_run(records: &[u8], desk: u8, first: usize) -> usize
     requires { ⌜ first ≤ wholeRecords (now records) ⌝ }
-    ensures { λ r. ⌜ r ≡ pastLastRun (now (records .entry)) desk first ⌝ }
+    ensures { λ r. ⌜ PastLast (now (records .entry)) desk first r ⌝ }
 {
     let whole = records.len() / 16;
     let mut k = first;
@@ -50,14 +50,32 @@ fn past_last_run(records: &[u8], desk: u8, first: usize) -> usize
     k
 }
 
-// THE RUNS OF ONE DESK: takes any bytes and any desk number, refuses nothing and writes nothing.
-pub fn desk_runs(records: &[u8], desk: u8) -> &[u8]
-    ensures { λ r. ⌜ Handed (records .entry) desk r ⌝ }
+// The first byte of the stretch, and the byte after its last.
+pub struct Stretch {
+    pub from: usize,
+    pub end: usize,
+}
+
+pub fn stretch_of(records: &[u8], desk: u8) -> Stretch
+    ensures { λ r. ⌜ Bounds (now (records .entry)) desk (r .from) (r .end) ⌝ }
 {
     let first = first_run(records, desk);
     if first < records.len() / 16 {
         let past = past_last_run(records, desk, first);
-        return &records[16 * first..16 * past];
+        return Stretch {
+            from: 16 * first,
+            end: 16 * past,
+        };
     }
-    &records[..0]
+    Stretch { from: 0, end: 0 }
+}
+
+// THE RUNS OF ONE DESK: takes any bytes and any desk number, refuses nothing and writes nothing.
+pub fn desk_runs(records: &[u8], desk: u8) -> &[u8]
+    ensures { λ r. ⌜ Handed (records .entry) desk r ⌝ }
+{
+    let s = stretch_of(records, desk);
+    let from = s.from;
+    let end = s.end;
+    &records[from..end]
 }

@@ -7,8 +7,6 @@ use Rattle.links.specs.Chains.{Chained}
 use Rattle.links.proofs.ChainLaws.{chained-none, chained-more}
 use Rattle.links.proofs.chains.chain_links.Statement.{statement}
 use Rattle.links.proofs.chains.chain_links.Tie as tie
-use Rattle.links.proofs.chains.chain_links.Reads as reads
-use Rattle.links.proofs.chains.chain_links.Lts as lts
 
 abbrev Inv-loop : tie.InvT-loop
 Inv-loop keys count last₀ prior₀ k₀ last prior k = (k ≤ count) × Chained keys k last prior
@@ -32,7 +30,8 @@ mul-prior : tie.Need-mul-prior Inv-loop μ-loop
 mul-prior c = omega (arith, c .before .before .before .pre .small (c .before .before .loop .k) (omega arith))
 
 element-copy-out-prior : tie.Need-element-copy-out-prior Inv-loop μ-loop
-element-copy-out-prior c = omega (arith, c .before .before .before .pre .small (c .before .before .loop .k) (omega arith))
+element-copy-out-prior c =
+    omega (arith, c .before .before .before .pre .small (c .before .before .loop .k) (omega arith))
 
 mul-prior-2 : tie.Need-mul-prior-2 Inv-loop μ-loop
 mul-prior-2 c = search needs
@@ -47,10 +46,12 @@ cast-last : tie.Need-cast-last Inv-loop μ-loop
 cast-last c = search needs
 
 mul-last : tie.Need-mul-last Inv-loop μ-loop
-mul-last c = omega (arith, c .before .before .before .before .pre .small (c .before .before .before .loop .k) (omega arith))
+mul-last c =
+    omega (arith, c .before .before .before .before .pre .small (c .before .before .before .loop .k) (omega arith))
 
 element-write-last : tie.Need-element-write-last Inv-loop μ-loop
-element-write-last c = omega (arith, c .before .before .before .before .pre .small (c .before .before .before .loop .k) (omega arith))
+element-write-last c =
+    omega (arith, c .before .before .before .before .pre .small (c .before .before .before .loop .k) (omega arith))
 
 add-k : tie.Need-add-k Inv-loop μ-loop
 add-k c = search needs
@@ -59,14 +60,15 @@ loop-less : tie.Need-loop-less Inv-loop μ-loop
 loop-less c = search needs
 
 loop-again : tie.Need-loop-again Inv-loop μ-loop
-loop-again c = (
-  omega arith,
-  chained-more _ _ _ _ (c .before .before .before .loop .inv .1) (c .before .before .before .before .pre .small (c .before .before .before .loop .k) (omega arith))
-      (omega (arith, c .before .before .before .before .pre .few)),
-)
+loop-again c =
+    let l = c .before .before .before .loop in
+    let p = c .before .before .before .before .pre in
+    (omega arith, chained-more _ _ _ _ (l .inv .1) (p .small (l .k) (omega arith)) (omega (arith, p .few)))
 
 returns : tie.Need-returns Inv-loop μ-loop
-returns c = let q : c .before .loop .k ≡ c .before .before .args .count = omega arith in rw (← q) (c .before .loop .inv .1)
+returns c =
+    let q : c .before .loop .k ≡ c .before .before .args .count = omega arith in
+    rw (← q) (c .before .loop .inv .1)
 
 pub chain-links-spec : {M : Type 1} → statement M
 chain-links-spec =

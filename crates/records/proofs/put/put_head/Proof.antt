@@ -1,3 +1,4 @@
+-- `put_head` meets its contract: four stores one behind the other.
 use borrow.Author.Needs.{needs}
 use native.Mathlib.Omega.{arith}
 use native.Mathlib.Numerals.{towards-suc}
@@ -8,47 +9,36 @@ use Rattle.records.proofs.put.put_head.Tie as tie
 use Rattle.records.proofs.put.put_head.Reads as reads
 use Rattle.records.proofs.put.put_head.Lts as lts
 
--- src/put.rt:34:5
 slice-write-buffer : tie.Need-slice-write-buffer
 slice-write-buffer c = search needs
 
--- src/put.rt:35:12
 add-buffer : tie.Need-add-buffer
 add-buffer c = search needs
 
--- src/put.rt:35:5
 slice-write-buffer-2 : tie.Need-slice-write-buffer-2
 slice-write-buffer-2 c = simp length-set (omega arith)
 
--- src/put.rt:36:22
 cast-buffer : tie.Need-cast-buffer
 cast-buffer c = search needs
 
--- src/put.rt:36:12
 add-buffer-2 : tie.Need-add-buffer-2
 add-buffer-2 c = search needs
 
--- src/put.rt:36:5
 slice-write-buffer-3 : tie.Need-slice-write-buffer-3
 slice-write-buffer-3 c = simp length-set (omega arith)
 
--- src/put.rt:37:22
 cast-buffer-2 : tie.Need-cast-buffer-2
 cast-buffer-2 c = search needs
 
--- src/put.rt:37:12
 add-buffer-3 : tie.Need-add-buffer-3
 add-buffer-3 c = search needs
 
--- src/put.rt:37:5
 slice-write-buffer-4 : tie.Need-slice-write-buffer-4
 slice-write-buffer-4 c = simp length-set (omega arith)
 
--- src/put.rt:30:1
 same-length : tie.Need-same-length
 same-length c = search needs
 
--- src/put.rt:30:1
 returns : tie.Need-returns
 unfolding half
 returns c = simp towards-suc

@@ -1,3 +1,4 @@
+-- `put_record` meets its contract: the four parts of a record, stored one behind the other, are the record.
 use borrow.Author.Needs.{needs}
 use Rattle.records.proofs.Stores.{record-in-parts}
 use Rattle.records.proofs.put.put_record.Statement.{statement}
@@ -7,39 +8,30 @@ use Rattle.records.proofs.put.put_record.Lts as lts
 use Rattle.records.proofs.put.put_head.Reads as put-head-reads
 use Rattle.records.proofs.put.put_word.Reads as put-word-reads
 
--- src/put.rt:44:5
 put-head-requires : tie.Need-put-head-requires
 put-head-requires c κs = search needs
 
--- src/put.rt:45:22
 add-put-word : tie.Need-add-put-word
 add-put-word c = search needs
 
--- src/put.rt:45:5
 put-word-requires : tie.Need-put-word-requires
 put-word-requires c κs = search needs
 
--- src/put.rt:46:22
 add-put-word-2 : tie.Need-add-put-word-2
 add-put-word-2 c = search needs
 
--- src/put.rt:46:5
 put-word-requires-2 : tie.Need-put-word-requires-2
 put-word-requires-2 c κs = search needs
 
--- src/put.rt:47:22
 add-put-word-3 : tie.Need-add-put-word-3
 add-put-word-3 c = search needs
 
--- src/put.rt:47:5
 put-word-requires-3 : tie.Need-put-word-requires-3
 put-word-requires-3 c κs = search needs
 
--- src/put.rt:40:1
 same-length : tie.Need-same-length
 same-length c = search needs
 
--- src/put.rt:40:1
 returns : tie.Need-returns
 returns c =
     let a = c .before .before .before .before .before .before .before .before .before .before .before .before .before .before .before .before .before .args in

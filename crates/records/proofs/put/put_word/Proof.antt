@@ -1,3 +1,4 @@
+-- `put_word` meets its contract: four stores one behind the other.
 use borrow.Author.Needs.{needs}
 use native.Mathlib.Omega.{arith}
 use native.Mathlib.Numerals.{towards-suc}
@@ -8,55 +9,42 @@ use Rattle.records.proofs.put.put_word.Tie as tie
 use Rattle.records.proofs.put.put_word.Reads as reads
 use Rattle.records.proofs.put.put_word.Lts as lts
 
--- src/put.rt:24:18
 cast-buffer : tie.Need-cast-buffer
 cast-buffer c = search needs
 
--- src/put.rt:24:5
 slice-write-buffer : tie.Need-slice-write-buffer
 slice-write-buffer c = search needs
 
--- src/put.rt:25:22
 cast-buffer-2 : tie.Need-cast-buffer-2
 cast-buffer-2 c = search needs
 
--- src/put.rt:25:12
 add-buffer : tie.Need-add-buffer
 add-buffer c = search needs
 
--- src/put.rt:25:5
 slice-write-buffer-2 : tie.Need-slice-write-buffer-2
 slice-write-buffer-2 c = simp length-set (omega arith)
 
--- src/put.rt:26:22
 cast-buffer-3 : tie.Need-cast-buffer-3
 cast-buffer-3 c = search needs
 
--- src/put.rt:26:12
 add-buffer-2 : tie.Need-add-buffer-2
 add-buffer-2 c = search needs
 
--- src/put.rt:26:5
 slice-write-buffer-3 : tie.Need-slice-write-buffer-3
 slice-write-buffer-3 c = simp length-set (omega arith)
 
--- src/put.rt:27:22
 cast-buffer-4 : tie.Need-cast-buffer-4
 cast-buffer-4 c = search needs
 
--- src/put.rt:27:12
 add-buffer-3 : tie.Need-add-buffer-3
 add-buffer-3 c = search needs
 
--- src/put.rt:27:5
 slice-write-buffer-4 : tie.Need-slice-write-buffer-4
 slice-write-buffer-4 c = simp length-set (omega arith)
 
--- src/put.rt:20:1
 same-length : tie.Need-same-length
 same-length c = search needs
 
--- src/put.rt:20:1
 returns : tie.Need-returns
 unfolding word
 returns c = simp towards-suc

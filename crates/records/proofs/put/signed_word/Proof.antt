@@ -1,3 +1,4 @@
+-- `signed_word` meets its contract: below zero the word is counted down from 4,294,967,295.
 use mathlib.Core.Path.{_≡_, refl, ap}
 use native.Mathlib.Omega.{arith}
 use Prim.Native.Nat.{_<_, _^_}
@@ -12,28 +13,24 @@ use Rattle.records.proofs.put.signed_word.Tie as tie
 use Rattle.records.proofs.put.signed_word.Reads as reads
 use Rattle.records.proofs.put.signed_word.Lts as lts
 
--- src/put.rt:15:31
 sub-result : tie.Need-sub-result
 sub-result c =
     let b = negative _ (c .before .fits .x) (c .if1 .taken) in
     let fit : SFits w32 (pos (b .deep)) = record { sfits = b .small } in
     rw (toZ-ofZ (c .before .fits .x), b .is, from-minus-one (b .deep)) fit
 
--- src/put.rt:15:30
 cast-result : tie.Need-cast-result
 cast-result c =
     let b = negative _ (c .before .fits .x) (c .if1 .taken) in
     let fit : SFits w32 (pos (b .deep)) = record { sfits = b .small } in
     rw (toZ-ofZ (c .before .fits .x), b .is, from-minus-one (b .deep), toZ-ofZ fit) (tt, omega (arith, b .small))
 
--- src/put.rt:15:16
 sub-result-2 : tie.Need-sub-result-2
 sub-result-2 c =
     let b = negative _ (c .before .fits .x) (c .if1 .taken) in
     let fit : SFits w32 (pos (b .deep)) = record { sfits = b .small } in
     rw (toZ-ofZ (c .before .fits .x), b .is, from-minus-one (b .deep), toZ-ofZ fit) (omega (arith, b .small))
 
--- src/put.rt:15:9
 returns : tie.Need-returns
 unfolding signedWord
 returns c =
@@ -41,13 +38,11 @@ returns c =
     let fit : SFits w32 (pos (b .deep)) = record { sfits = b .small } in
     rw (toZ-ofZ (c .before .fits .x), b .is, from-minus-one (b .deep), toZ-ofZ fit)
 
--- src/put.rt:17:5
 cast-result-2 : tie.Need-cast-result-2
 cast-result-2 c =
     let b = not-negative _ (c .before .fits .x) (c .if1 .left) in
     rw (toZ-ofZ (c .before .fits .x), b .is) (tt, omega (arith, b .small))
 
--- src/put.rt:11:1
 returns-2 : tie.Need-returns-2
 unfolding signedWord
 returns-2 c =

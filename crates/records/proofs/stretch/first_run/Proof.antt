@@ -1,3 +1,4 @@
+-- `first_run` meets its contract: what is left to look at gives the whole answer.
 use Prim.Native.Nat.{_≤_, _-_, _/_}
 use mathlib.Core.Path.{_≡_, refl, sym, ap, _∙_}
 use mathlib.Core.Bool.{not}
@@ -17,33 +18,35 @@ Inv-loop records desk whole k₀ k = (k ≤ whole) × (whole ≡ length records 
 abbrev μ-loop : tie.MeasureT-loop
 μ-loop records desk whole k₀ k = whole - k
 
--- src/stretch.rt:28:5
 loop-holds : tie.Need-loop-holds Inv-loop μ-loop
-loop-holds c = ?
+unfolding firstRun
+loop-holds c = (omega arith, refl, let z : length (c .before .args .records .now) / 16 - 0 ≡ length (c .before .args .records .now) / 16 = omega arith in rw z)
 
--- src/stretch.rt:29:12
 is-run-of-requires : tie.Need-is-run-of-requires Inv-loop μ-loop
 is-run-of-requires c κs = omega arith
 
--- src/stretch.rt:30:13
 returns : tie.Need-returns Inv-loop μ-loop
-returns c = ?
+returns c =
+    let a = c .before .before .before .before .before .args in
+    sym (first-here (isRunOf (a .records .now) (a .desk)) (length (a .records .now) / 16) (c .before .before .before .loop .k) (omega arith) (sym (c .before .is-run-of .ensures) ∙ c .if1 .taken))
+    ∙ c .before .before .before .loop .inv .2
 
--- src/stretch.rt:32:9
 add-k : tie.Need-add-k Inv-loop μ-loop
 add-k c = omega arith
 
--- src/stretch.rt:28:5
 loop-less : tie.Need-loop-less Inv-loop μ-loop
 loop-less c = omega arith
 
--- src/stretch.rt:28:5
 loop-again : tie.Need-loop-again Inv-loop μ-loop
-loop-again c = ?
+loop-again c =
+    let a = c .before .before .before .before .before .args in (
+      omega arith,
+      refl,
+      first-later (isRunOf (a .records .now) (a .desk)) (length (a .records .now) / 16) (c .before .before .before .loop .k) (omega arith) (sym (c .before .is-run-of .ensures) ∙ c .if1 .left) ∙ c .before .before .before .loop .inv .2,
+    )
 
--- src/stretch.rt:23:1
 returns-2 : tie.Need-returns-2 Inv-loop μ-loop
-returns-2 c = ?
+returns-2 c = sym (first-nowhere _ (length (c .before .before .before .args .records .now) / 16) _ (omega arith)) ∙ c .before .loop .inv .2
 
 pub first-run-spec : {M : Type 1} → statement M
 first-run-spec =

@@ -7,28 +7,22 @@ use Rattle.records.proofs.stretch.is_run_of.Tie as tie
 use Rattle.records.proofs.stretch.is_run_of.Reads as reads
 use Rattle.records.proofs.stretch.is_run_of.Lts as lts
 
--- src/stretch.rt:15:14
 mul-at : tie.Need-mul-at
 mul-at c = search needs
 
--- src/stretch.rt:16:8
 shared-slice-read-if1 : tie.Need-shared-slice-read-if1
 shared-slice-read-if1 c = search needs
 
--- src/stretch.rt:17:9
 returns : tie.Need-returns
 unfolding isRunOf
 returns c = rw (ne-eqb _ 18 (c .if1 .taken))
 
--- src/stretch.rt:19:13
 add-result : tie.Need-add-result
 add-result c = search needs
 
--- src/stretch.rt:19:5
 shared-slice-read-result : tie.Need-shared-slice-read-result
 shared-slice-read-result c = search needs
 
--- src/stretch.rt:11:1
 returns-2 : tie.Need-returns-2
 unfolding isRunOf
 returns-2 c = rw (eq-eqb _ 18 (c .before .if1 .left))

@@ -1,3 +1,4 @@
+-- `past_last_run` meets its contract: what is left to look at gives the whole answer.
 use Prim.Native.Nat.{_≤_, _-_, _/_}
 use mathlib.Core.Path.{_≡_, refl, sym, ap, _∙_}
 use mathlib.Core.Bool.{not}
@@ -12,38 +13,45 @@ use Rattle.records.proofs.stretch.past_last_run.Lts as lts
 use Rattle.records.proofs.stretch.is_run_of.Reads as is-run-of-reads
 
 abbrev Inv-loop : tie.InvT-loop
-Inv-loop records desk first whole k₀ k = (k ≤ whole) × (whole ≡ length records / 16) × (firstFrom (λ i. not (isRunOf records desk i)) (whole - k) k ≡ pastLastRun records desk first)
+Inv-loop records desk first whole k₀ k = (k ≤ whole) × (first ≤ k) × (whole ≡ length records / 16) × (firstFrom (λ i. not (isRunOf records desk i)) (whole - k) k ≡ pastLastRun records desk first)
 
 abbrev μ-loop : tie.MeasureT-loop
 μ-loop records desk first whole k₀ k = whole - k
 
--- src/stretch.rt:44:5
 loop-holds : tie.Need-loop-holds Inv-loop μ-loop
-loop-holds c = ?
+unfolding pastLastRun
+loop-holds c = (omega arith, omega arith, refl, refl)
 
--- src/stretch.rt:45:13
 is-run-of-requires : tie.Need-is-run-of-requires Inv-loop μ-loop
 is-run-of-requires c κs = omega arith
 
--- src/stretch.rt:46:13
 returns : tie.Need-returns Inv-loop μ-loop
-returns c = ?
+returns c =
+    let a = c .before .before .before .before .before .args in
+    record {
+      not-before = omega arith;
+      within = omega arith;
+      is = sym (first-here (λ i. not (isRunOf (a .records .now) (a .desk) i)) (length (a .records .now) / 16) (c .before .before .before .loop .k) (omega arith) (ap not (sym (c .before .is-run-of .ensures)) ∙ c .if1 .taken))
+          ∙ c .before .before .before .loop .inv .3;
+    }
 
--- src/stretch.rt:48:9
 add-k : tie.Need-add-k Inv-loop μ-loop
 add-k c = omega arith
 
--- src/stretch.rt:44:5
 loop-less : tie.Need-loop-less Inv-loop μ-loop
 loop-less c = omega arith
 
--- src/stretch.rt:44:5
 loop-again : tie.Need-loop-again Inv-loop μ-loop
-loop-again c = ?
+loop-again c =
+    let a = c .before .before .before .before .before .args in (
+      omega arith,
+      omega arith,
+      refl,
+      first-later (λ i. not (isRunOf (a .records .now) (a .desk) i)) (length (a .records .now) / 16) (c .before .before .before .loop .k) (omega arith) (ap not (sym (c .before .is-run-of .ensures)) ∙ c .if1 .left) ∙ c .before .before .before .loop .inv .3,
+    )
 
--- src/stretch.rt:38:1
 returns-2 : tie.Need-returns-2 Inv-loop μ-loop
-returns-2 c = ?
+returns-2 c = record { not-before = omega arith; within = omega arith; is = sym (first-nowhere _ (length (c .before .before .before .args .records .now) / 16) _ (omega arith)) ∙ c .before .loop .inv .3 }
 
 pub past-last-run-spec : {M : Type 1} → statement M
 past-last-run-spec =

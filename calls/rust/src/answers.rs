@@ -1,0 +1,63 @@
+//! The answers of the plan and of the block sheet. Their numbers are those of the library as they come, so
+//! that a test which compares them sees every bit; what a caller asks of them most stands in methods.
+
+use crate::RECORD;
+
+/// A refusal by its number on the list of the rules page, with the place that the list names for it.
+#[derive(Clone, Copy, Debug, PartialEq, Eq)]
+pub struct Refusal {
+    pub number: i64,
+    pub place: i64,
+}
+
+/// The answer of the plan; a refused one has nothing but its number and place.
+#[derive(Clone, Copy, Debug, Default, PartialEq, Eq)]
+pub struct PlanAnswer {
+    pub number: i64,
+    pub place: i64,
+    pub pieces: i64,
+    pub runs: i64,
+    /// The largest finish.
+    pub end: i64,
+    /// The greatest lateness; below zero where every piece is early.
+    pub worst: i64,
+}
+
+/// The answer of the block sheet of one desk; a refused one has nothing but its number and place.
+#[derive(Clone, Copy, Debug, Default, PartialEq, Eq)]
+pub struct BlockAnswer {
+    pub number: i64,
+    pub place: i64,
+    pub blocks: i64,
+    pub runs: i64,
+    /// The greatest lateness on this desk.
+    pub worst: i64,
+}
+
+impl PlanAnswer {
+    /// Why the file was refused, if it was.
+    pub fn refusal(&self) -> Option<Refusal> {
+        refusal(self.number, self.place)
+    }
+
+    /// How many bytes at the front of the buffer are records of this plan.
+    pub fn written(&self) -> usize {
+        RECORD * (self.pieces + self.runs) as usize
+    }
+}
+
+impl BlockAnswer {
+    /// Why the sheet was refused, if it was.
+    pub fn refusal(&self) -> Option<Refusal> {
+        refusal(self.number, self.place)
+    }
+
+    /// How many bytes at the front of the buffer are records of this sheet.
+    pub fn written(&self) -> usize {
+        RECORD * (self.blocks + self.runs) as usize
+    }
+}
+
+fn refusal(number: i64, place: i64) -> Option<Refusal> {
+    (number != 0).then_some(Refusal { number, place })
+}

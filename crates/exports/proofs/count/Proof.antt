@@ -1,0 +1,18 @@
+-- `count` meets its contract: the number is far below the sign.
+use native.Mathlib.Omega.{arith}
+use mir.Syntax.{w64}
+use mir.Facts.{toZ-pos}
+use borrow.Author.Needs.{needs}
+use Rattle.exports.proofs.count.Statement.{statement}
+use Rattle.exports.proofs.count.Tie as tie
+use Rattle.exports.proofs.count.Reads as reads
+use Rattle.exports.proofs.count.Lts as lts
+
+cast-result : tie.Need-cast-result
+cast-result c = search needs
+
+returns : tie.Need-returns
+returns c = toZ-pos w64 {n = c .args .x} (omega arith)
+
+pub count-spec : {M : Type 1} → statement M
+count-spec = tie.close (tie.spec cast-result returns)

@@ -1,0 +1,21 @@
+-- The exported calls: the same answer and the same buffer as the planner's own calls, with the answer's numbers in a row.
+use Prim.Native.Nat.{ℕ}
+use mathlib.Core.List.{List, [], _∷_}
+use mathlib.Core.Path.{_≡_}
+use lib.IntN.{ℤ, pos}
+use Rattle.rules.specs.Plan.{planAnswer, planBuffer}
+use Rattle.rules.specs.DeskRuns.{stretchFrom, stretchEnd}
+use Rattle.rules.specs.declared.PlanAnswer.{PlanAnswer}
+
+-- number, place, pieces, runs, end, worst
+abbrev pub planRow : PlanAnswer → List ℤ
+planRow a =
+    pos (a .number) ∷ pos (a .place) ∷ pos (a .pieces) ∷ pos (a .runs) ∷ pos (a .end) ∷ a .worst ∷ []
+
+pub record PlanCall (file buffer after : List ℕ) (row : List ℤ) : Type 0 where
+  pub answered : row ≡ planRow (planAnswer file buffer)
+  pub left-there : after ≡ planBuffer file buffer
+
+-- first byte, byte after the last
+pub record RunsCall (records : List ℕ) (desk : ℕ) (row : List ℕ) : Type 0 where
+  pub answered : row ≡ stretchFrom records desk ∷ stretchEnd records desk ∷ []

@@ -1,0 +1,2 @@
+-- What the contracts of the judgement of one record cite besides the rules.
+pub mod Says

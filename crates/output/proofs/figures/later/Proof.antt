@@ -1,0 +1,23 @@
+-- `later` meets its contract: the test is the definition's.
+use mir.Syntax.{w32}
+use mir.Facts.{toZ-ofZ}
+use Rattle.rules.specs.Words.{when, greaterZ}
+use Rattle.output.proofs.figures.later.Statement.{statement}
+use Rattle.output.proofs.figures.later.Tie as tie
+use Rattle.output.proofs.figures.later.Reads as reads
+use Rattle.output.proofs.figures.later.Lts as lts
+
+returns : tie.Need-returns
+unfolding greaterZ
+returns c =
+    let t = simp (toZ-ofZ (c .before .fits .a), toZ-ofZ (c .before .fits .b)) at (c .if1 .taken) in
+    rw (toZ-ofZ (c .before .fits .b), t, when)
+
+returns-2 : tie.Need-returns-2
+unfolding greaterZ
+returns-2 c =
+    let t = simp (toZ-ofZ (c .before .fits .a), toZ-ofZ (c .before .fits .b)) at (c .if1 .left) in
+    rw (toZ-ofZ (c .before .fits .a), t, when)
+
+pub later-spec : {M : Type 1} → statement M
+later-spec = tie.close (tie.spec returns returns-2)

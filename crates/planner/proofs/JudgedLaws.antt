@@ -1,0 +1,72 @@
+-- A job file judged for itself, by the cases of its reading and of the ring check.
+use Prim.Native.Nat.{ℕ}
+use mathlib.Core.List.{List}
+use mathlib.Core.Option.{Option, none, some}
+use mathlib.Core.Path.{_≡_, refl, sym, ap, _∙_}
+use native.Mathlib.Omega.{arith}
+use Rattle.rules.specs.Job.{Outcome, refused, accepted}
+use Rattle.rules.specs.Reading.{readJob}
+use Rattle.rules.specs.Rings.{ringPiece, lowestOnRing}
+use Rattle.rules.specs.Judgement.{thenJudge, unlessRing, fileOutcome}
+use Rattle.rules.specs.Tables.{Sound, jobIn}
+use Rattle.rules.specs.declared.Refusal.{Refusal}
+use Rattle.reader.specs.Outcome.{outcomeOf, ReadsJob}
+use Rattle.reader.specs.declared.Read.{Read}
+use Rattle.reader.specs.declared.Read.the-variants.{Job, Refused}
+use Rattle.reader.proofs.Callers.{is-refused, is-accepted, is-sound}
+use Rattle.links.specs.Links.{follows, Ties}
+use Rattle.links.proofs.LinkLaws.{job-ring, job-ties}
+use Rattle.planner.specs.Judged.{JudgesFile}
+
+-- A refusal is no job.
+abbrev caseOf : Read → ℕ
+caseOf (Job n m) = 0
+caseOf (Refused r) = 1
+
+no-job : {P : Type 0} (x : Refusal) (n m : ℕ) → Refused x ≡ Job n m → P
+no-job x n m e = let z : _≡_ {A = ℕ} 1 0 = ap caseOf e in absurd (omega arith)
+
+same-job : (a b n m : ℕ) → Job a b ≡ Job n m → (a ≡ n) × (b ≡ m)
+same-job a b n m e = (cc, cc)
+
+module _ {s : List ℕ} {r : Read} {desks durations releases dues befores afters handovers : List ℕ}
+    (read : ReadsJob s r desks durations releases dues befores afters handovers) where
+  pub judged-refused : (x : Refusal) → r ≡ Refused x → JudgesFile s r desks durations releases dues befores afters handovers
+  unfolding fileOutcome thenJudge
+  judged-refused x e = rw e (record {
+    says = ap (λ o. thenJudge o unlessRing) (is-refused read x e);
+    sound = λ n m q. no-job x n m q;
+    free = λ n m q. no-job x n m q;
+  })
+
+  module _ (n m : ℕ) (e : r ≡ Job n m) where
+    pub judged-ties : Ties n m befores afters
+    judged-ties = job-ties n m desks durations releases dues befores afters handovers (is-sound read n m e)
+
+    read-on : fileOutcome s ≡ unlessRing (jobIn n m desks durations releases dues befores afters handovers)
+    unfolding fileOutcome thenJudge
+    read-on = ap (λ o. thenJudge o unlessRing) (is-accepted read n m e)
+
+    pub judged-free : none ≡ lowestOnRing (follows m befores afters) n
+        → JudgesFile s (Job n m) desks durations releases dues befores afters handovers
+    unfolding unlessRing
+    judged-free found =
+        let free : ringPiece (jobIn n m desks durations releases dues befores afters handovers) ≡ none =
+        job-ring n m desks durations releases dues befores afters handovers ∙ sym found in
+        record {
+          says = read-on ∙ rw (free, unlessRing);
+          sound = λ a b q. let w = same-job n m a b q in rw (← (w .0), ← (w .1)) (is-sound read n m e);
+          free = λ a b q. let w = same-job n m a b q in rw (← (w .0), ← (w .1)) free;
+        }
+
+    pub judged-ring : (i : ℕ) → some i ≡ lowestOnRing (follows m befores afters) n
+        → JudgesFile s (Refused (record { number = 11; place = i })) desks durations releases dues befores afters handovers
+    unfolding unlessRing
+    judged-ring i found =
+        let at : ringPiece (jobIn n m desks durations releases dues befores afters handovers) ≡ some i =
+        job-ring n m desks durations releases dues befores afters handovers ∙ sym found in
+        record {
+          says = read-on ∙ rw (at, unlessRing);
+          sound = λ a b q. no-job (record { number = 11; place = i }) a b q;
+          free = λ a b q. no-job (record { number = 11; place = i }) a b q;
+        }
