@@ -1,11 +1,12 @@
 -- The lines of a listing over plain numbers, out of the tables of a finished plan: for each piece its desk, start, finish and
 -- latest moment; for each run of the log its piece, its first slot and one past its last.
-use Prim.Native.Nat.{ℕ, _+_, _≤_}
+use Prim.Native.Nat.{ℕ, _+_, _≤_, _<_}
 use mathlib.Core.List.{List, [], _∷_, _++_, map}
 use mathlib.Core.Path.{_≡_}
+use lib.Dec.{eqb}
 use lib.IntN.{ℤ, pos}
 use lib.ListN.{length, getD}
-use Rattle.rules.specs.Words.{below, joined}
+use Rattle.rules.specs.Words.{when, below, joined}
 use Rattle.rules.specs.Listing.{field, signedField, line, runLine}
 use Rattle.steps.specs.Log.{loggedRuns}
 use Rattle.output.specs.Late.{latenessOf}
@@ -40,11 +41,18 @@ unfoldable pub pieceLinesIn : ℕ → List ℕ → List ℕ → List ℕ → Lis
 unfolding joined pieceLineIn below
 pieceLinesIn n desks starts finishes latests = joined (map (pieceLineIn desks starts finishes latests) (below n))
 
--- The run lines of one desk out of the first `count` runs of the log, and those of the first n desks.
+-- The run lines of one desk out of the first `count` runs of the log.
 unfoldable pub deskLinesIn : ℕ → List ℕ → List ℕ → List ℕ → List ℕ → ℕ → List ℕ
 unfolding joined runLine loggedRuns
 deskLinesIn count desks pieces froms untils d = joined (map (runLine d) (loggedRuns desks pieces froms untils count d))
 
+-- What the run at place k of the log adds to the lines of desk d: its line where it is the desk's, and else nothing.
+unfoldable pub runLineIn : List ℕ → List ℕ → List ℕ → List ℕ → ℕ → ℕ → List ℕ
+unfolding when runText
+runLineIn desks pieces froms untils d k =
+    when (eqb (getD desks (getD pieces k 0) 0) d) (runText d (getD pieces k 0) (getD froms k 0) (getD untils k 0)) []
+
+-- The run lines of the first n desks.
 unfoldable pub runLinesIn : ℕ → ℕ → List ℕ → List ℕ → List ℕ → List ℕ → List ℕ
 unfolding joined deskLinesIn below
 runLinesIn n count desks pieces froms untils = joined (map (deskLinesIn count desks pieces froms untils) (below n))
@@ -53,3 +61,9 @@ runLinesIn n count desks pieces froms untils = joined (map (deskLinesIn count de
 pub record FieldFits (word text : List ℕ) (at : ℕ) : Type 0 where
   pub short : length word ≤ 14
   pub room : at + 35 ≤ length text
+
+-- Room for the line of the run at place k of the log, whose piece is one of the tables'.
+pub record RunFits (k : ℕ) (pieces : List ℕ) (at : ℕ) (text : List ℕ) : Type 0 where
+  pub place : k < 512
+  pub known : getD pieces k 0 < 256
+  pub room : at + 141 ≤ length text
