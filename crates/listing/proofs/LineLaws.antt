@@ -15,7 +15,7 @@ use Rattle.rules.specs.Listing.{letters, line, field, signedField, digits, sign
 use Prim.Native.String.{String}
 use Rattle.laws.proofs.Joined.{joined-append}
 use Rattle.listing.specs.Puts.{Puts, PutsField}
-use Rattle.listing.specs.Lines.{pieceText, runText, totalText}
+use Rattle.listing.specs.Lines.{pieceText, runText, totalText, refusedText}
 use Rattle.listing.proofs.TextLaws.{puts-same, puts-then, puts-byte, number-fits, signed-fits}
 
 -- Some fields stand there, at most 35 bytes each.
@@ -127,3 +127,8 @@ total-most n r e w = line-most (
         ),
       ),
     )
+
+pub refused-most : (n at : ℕ) → length (refusedText n at) ≤ 71
+unfolding refusedText letters
+refused-most n at = line-most (field "refused " n ∷ field " at " at ∷ [])
+    (field-most "refused " n (omega arith), (field-most " at " at (omega arith), tt))
