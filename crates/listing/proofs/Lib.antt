@@ -1,2 +1,4 @@
 -- What the proofs of this crate share.
 pub mod TextLaws
+pub mod LineLaws
+pub mod PageLaws
