@@ -1,0 +1,1 @@
+// The block sheet of one desk.
