@@ -12,7 +12,7 @@ use lib.Dec.{leb, ltb, eqb}
 use Rattle.rules.specs.Words.{when}
 use Rattle.laws.proofs.Words.{by-test, and-true, and-false, when-true, when-false}
 use Rattle.theory.proofs.Cases.{by-le, test-ext}
-use Rattle.blocks.specs.Board.{Stretch, stretch, joined, give, holder}
+use Rattle.blocks.specs.Board.{Stretch, stretch, touching, joined, give, holder}
 
 -- Stretch q is over when r begins, and is another piece's if they touch.
 abbrev pub Clear : Stretch → Stretch → Type 0
@@ -36,7 +36,7 @@ ends-later s t [] h e = tt
 ends-later s t (r ∷ b) h e = omega (arith, e)
 
 joined-tidy : (p f u : ℕ) (b : List Stretch) → f < u → Tidy b → Ends f b → Tidy (joined p f u b) × Ends u (joined p f u b)
-unfolding joined
+unfolding joined touching
 joined-tidy p f u [] h tidy ends = ((h, tt, tt), omega arith)
 joined-tidy p f u (r ∷ b) h tidy ends =
     by-test (eqb (r .until) f && eqb (r .piece) p)
@@ -104,9 +104,9 @@ module _ (opens : ℕ → Bool) where
       when-true (between f u t) (some p) o h ∙ sym (when-true (between g v t) (some p) o k)
 
   -- Two stretches that touch are one.
-  touching : (s f u t p : ℕ) (o : Option ℕ) → s ≤ f → f ≤ u
+  two-touch : (s f u t p : ℕ) (o : Option ℕ) → s ≤ f → f ≤ u
       → when (between s u t) (some p) o ≡ when (between f u t) (some p) (when (between s f t) (some p) o)
-  touching s f u t p o h k =
+  two-touch s f u t p o h k =
       by-test (opens t)
       (λ z.
       by-le s t
@@ -136,7 +136,7 @@ module _ (opens : ℕ → Bool) where
 
   joined-holder : (p f u : ℕ) (b : List Stretch) → f ≤ u → Tidy b → (t : ℕ)
       → holder opens (joined p f u b) t ≡ when (between f u t) (some p) (holder opens b t)
-  unfolding joined holder
+  unfolding joined touching holder
   joined-holder p f u [] h tidy t = refl
   joined-holder p f u (r ∷ b) h tidy t =
       by-test (eqb (r .until) f && eqb (r .piece) p)
@@ -145,7 +145,7 @@ module _ (opens : ℕ → Bool) where
       let touch : r .until ≡ f = eqb-true (r .until) f (k .0) in
       let same : r .piece ≡ p = eqb-true (r .piece) p (k .1) in
       rw (e, when, same, touch)
-      (touching (r .from) f u t p (holder opens b t) (omega (arith, tidy .0)) h))
+      (two-touch (r .from) f u t p (holder opens b t) (omega (arith, tidy .0)) h))
       (λ e. rw (e, when))
 
   pub give-holder : (who : Option ℕ) (f u : ℕ) (b : List Stretch) → Tidy b → (t : ℕ)

@@ -6,3 +6,5 @@ pub mod RunsLaid
 pub mod Turned
 pub mod OfDesk
 pub mod Late
+pub mod Stored
+pub mod Gathering

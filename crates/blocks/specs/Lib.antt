@@ -1,3 +1,6 @@
--- The words of the block sheet's code: tables, the board of stretches, the method as it fills the board.
+-- The words of the block sheet's code: the desk's slots, entries out of tables, the board of stretches, and the method as it
+-- fills the board.
+pub mod Hours
+pub mod Listed
 pub mod Board
 pub mod Method

@@ -1,1 +1,3 @@
-// The block sheet of one desk.
+// The block sheet of one desk, by the rule of the page's section on it, from the tables of a finished plan.
+pub mod board;
+pub mod gather;
