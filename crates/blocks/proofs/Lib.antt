@@ -8,3 +8,5 @@ pub mod OfDesk
 pub mod Late
 pub mod Stored
 pub mod Gathering
+pub mod Marked
+pub mod Chosen

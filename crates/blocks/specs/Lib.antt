@@ -4,3 +4,4 @@ pub mod Hours
 pub mod Listed
 pub mod Board
 pub mod Method
+pub mod Aside
