@@ -10,3 +10,4 @@ pub mod Stored
 pub mod Gathering
 pub mod Marked
 pub mod Chosen
+pub mod Cutting

@@ -5,3 +5,4 @@ pub mod Listed
 pub mod Board
 pub mod Method
 pub mod Aside
+pub mod Solving

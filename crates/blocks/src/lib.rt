@@ -2,3 +2,4 @@
 pub mod aside;
 pub mod board;
 pub mod gather;
+pub mod solve;
