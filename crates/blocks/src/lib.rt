@@ -1,5 +1,0 @@
-// The block sheet of one desk, by the rule of the page's section on it, from the tables of a finished plan.
-pub mod aside;
-pub mod board;
-pub mod gather;
-pub mod solve;
