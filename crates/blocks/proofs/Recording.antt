@@ -13,8 +13,8 @@ use Rattle.rules.specs.Entries.{Entry}
 use Rattle.rules.specs.Blocks.{Block, blockEnd, cutInOrder}
 use Rattle.laws.proofs.Words.{map-same, mem-row}
 use Rattle.method.specs.Hours.{deskEnd}
-use Rattle.steps.specs.Listed.{entryIn, Extends}
-use Rattle.steps.proofs.Gathering.{map-snoc}
+use Rattle.blocksteps.specs.Listed.{entryIn, Extends}
+use Rattle.blocksteps.proofs.Gathering.{map-snoc}
 use Rattle.blocks.specs.Rows.{BlockRow, rowOf, rowAt, rowsIn, RowTables, HoldsRows}
 
 row-snoc : (n a : ℕ) → row a (suc n) ≡ row a n ++ ((a + n) ∷ [])

@@ -8,7 +8,7 @@ use Rattle.rules.specs.Words.{below}
 use Rattle.rules.specs.Entries.{Entry}
 use Rattle.rules.specs.Blocks.{Block, blockEnd, cutInOrder}
 use Rattle.method.specs.Hours.{deskEnd}
-use Rattle.steps.specs.Listed.{entryIn}
+use Rattle.blocksteps.specs.Listed.{entryIn}
 
 -- What the sheet says of a block: the count of its pieces, its first slot, its end.
 pub record BlockRow : Type 0 where

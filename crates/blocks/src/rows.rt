@@ -1,11 +1,11 @@
 // What the sheet says besides the runs: a row for each block of the first cutting, and the worst lateness over the runs.
-use steps::gather::gather_block;
+use blocksteps::gather::gather_block;
 ghost use mathlib.Core.Path.{_≡_};
 ghost use mathlib.Core.List.{map};
 ghost use Prim.Native.Nat.{_≤_};
 ghost use lib.IntN.{pos, _-ℤ_, natAbs};
 ghost use Rattle.rules.specs.Words.{greaterZ, worstOf, below};
-ghost use Rattle.steps.specs.Listed.{Listed};
+ghost use Rattle.blocksteps.specs.Listed.{Listed};
 ghost use Rattle.blocks.specs.Rows.{RowTables, HoldsRows, lateIn, Dated};
 
 // Puts count, first slot and end of each block of the listed set into the tables, by time, and returns how many there are.

@@ -17,12 +17,12 @@ use Rattle.rules.specs.Blocks.{Block, blockEnd, cutInOrder, setAside, others}
 use Rattle.laws.proofs.Words.{by-test, keep-length, mem-keep}
 use Rattle.laws.proofs.Sound.{mem-place, place-mem}
 use Rattle.method.specs.Hours.{deskEnd}
-use Rattle.steps.specs.Listed.{entryIn, tiedIn, Listed, Extends}
+use Rattle.blocksteps.specs.Listed.{entryIn, tiedIn, Listed, Extends}
 use Rattle.method.specs.Board.{Stretch, give, whom}
 use Rattle.method.specs.Method.{around, solved}
-use Rattle.steps.specs.Aside.{optional, Aside}
+use Rattle.blocksteps.specs.Aside.{optional, Aside}
 use Rattle.solve.specs.Solving.{CutOnto, SolvedOnto}
-use Rattle.steps.proofs.Chosen.{whom-some, whom-nobody, named-in, aside-listed, others-are}
+use Rattle.blocksteps.proofs.Chosen.{whom-some, whom-nobody, named-in, aside-listed, others-are}
 
 module _ (follows : ℕ → ℕ → Bool) (entry : ℕ → Entry) (f : ℕ) (who : Option ℕ) (end : ℕ) where
   -- The board of the listed set from moment t on.

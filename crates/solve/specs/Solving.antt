@@ -6,10 +6,10 @@ use lib.IntN.{ℤ}
 use lib.ListN.{length}
 use Rattle.rules.specs.Blocks.{Block, cutInOrder}
 use Rattle.method.specs.Hours.{deskEnd}
-use Rattle.steps.specs.Listed.{entryIn, tiedIn, Listed}
+use Rattle.blocksteps.specs.Listed.{entryIn, tiedIn, Listed}
 use Rattle.method.specs.Board.{Stretch, boardIn, whom, Tables}
 use Rattle.method.specs.Method.{around, solved}
-use Rattle.steps.specs.Aside.{Tied}
+use Rattle.blocksteps.specs.Aside.{Tied}
 
 -- The links, the listed pieces, and room on the board for so many stretches.
 pub record Lent (m : ℕ) (befores afters ready ids marks pieces froms untils : List ℕ) (most : ℕ) : Type 0 where

@@ -2,11 +2,11 @@
 // one piece is set aside; the others are a set to be cut again, and the piece set aside gets the slots that they leave free.
 // These are the slots before, between and behind the blocks of the others, since a block leaves none of its own slots free:
 // so slots are given away in the order of time.
-use steps::aside::set_aside;
-use steps::aside::without;
-use steps::board::NOBODY;
-use steps::board::give_slots;
-use steps::gather::gather_block;
+use blocksteps::aside::set_aside;
+use blocksteps::aside::without;
+use blocksteps::board::NOBODY;
+use blocksteps::board::give_slots;
+use blocksteps::gather::gather_block;
 ghost use Prim.Native.Nat.{_+_, _*_, _-_};
 ghost use lib.ListN.{length};
 ghost use Rattle.method.specs.Board.{boardIn};

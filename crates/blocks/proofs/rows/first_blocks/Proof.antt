@@ -6,14 +6,14 @@ use borrow.Author.Needs.{needs}
 use native.Mathlib.Omega.{arith}
 use lib.IntN.{ℤ}
 use lib.ListN.{length, drop, length-drop}
-use Rattle.steps.specs.Listed.{entryIn, Extends}
+use Rattle.blocksteps.specs.Listed.{entryIn, Extends}
 use Rattle.solve.proofs.Cutting.{same-rest, listed-rest}
 use Rattle.blocks.proofs.Recording.{Recording, recording-none, recording-more, recording-end}
 use Rattle.blocks.proofs.rows.first_blocks.Statement.{statement}
 use Rattle.blocks.proofs.rows.first_blocks.Tie as tie
 use Rattle.blocks.proofs.rows.first_blocks.Reads as reads
 use Rattle.blocks.proofs.rows.first_blocks.Lts as lts
-use Rattle.steps.proofs.gather.gather_block.Reads as gather-block-reads
+use Rattle.blocksteps.proofs.gather.gather_block.Reads as gather-block-reads
 
 abbrev Inv-loop : tie.InvT-loop
 Inv-loop ids ready durations counts₀ starts₀ ends₀ b₀ at₀ counts starts ends b at =

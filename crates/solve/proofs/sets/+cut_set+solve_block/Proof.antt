@@ -17,7 +17,7 @@ use lib.Dec.{eqb}
 use lib.ListN.{length, getD, take, drop}
 use Rattle.rules.specs.Words.{keep}
 use Rattle.method.specs.Hours.{deskEnd}
-use Rattle.steps.specs.Listed.{entryIn, tiedIn, Extends}
+use Rattle.blocksteps.specs.Listed.{entryIn, tiedIn, Extends}
 use Rattle.method.specs.Board.{boardIn, whom, Tables}
 use Rattle.solve.proofs.Cutting.{onward, one-block, no-block, listed-part, solved-nobody, fewer, solved-others}
 use Prim.Native.Nat.{ℕ, _<_}
@@ -29,10 +29,10 @@ use Rattle.solve.proofs.sets.+cut_set+solve_block.Lts-cut_set as cut-se
 use Rattle.solve.proofs.sets.solve_block.Reads as solve-block
 use Rattle.solve.proofs.sets.solve_block.Kinds as solve-block-kinds
 use Rattle.solve.proofs.sets.+cut_set+solve_block.Lts-solve_block as solve-block-lts
-use Rattle.steps.proofs.aside.set_aside.Reads as set-aside-reads
-use Rattle.steps.proofs.aside.without.Reads as without-reads
-use Rattle.steps.proofs.board.give_slots.Reads as give-slots-reads
-use Rattle.steps.proofs.gather.gather_block.Reads as gather-block-reads
+use Rattle.blocksteps.proofs.aside.set_aside.Reads as set-aside-reads
+use Rattle.blocksteps.proofs.aside.without.Reads as without-reads
+use Rattle.blocksteps.proofs.board.give_slots.Reads as give-slots-reads
+use Rattle.blocksteps.proofs.gather.gather_block.Reads as gather-block-reads
 use Rattle.solve.proofs.sets.+cut_set+solve_block.{statement}
 use Rattle.solve.proofs.sets.+cut_set+solve_block.Tie.{close}
 
