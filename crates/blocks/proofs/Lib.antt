@@ -1,0 +1,3 @@
+pub mod Sorting
+pub mod Worst
+pub mod Recording

@@ -1,0 +1,2 @@
+-- What the tables of a finished plan hold, and the moments made of them.
+pub mod Planned

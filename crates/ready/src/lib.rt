@@ -1,0 +1,2 @@
+// Raised ready moments of all pieces out of the tables of a finished plan.
+pub mod raise;

@@ -1,0 +1,394 @@
+-- Cutting a set and solving a block meet their contracts together: the count of pieces falls. What is left to cut from here
+-- gives the board of the whole set.
+use lib.Seq.{length-take-le, length-front}
+use Rattle.solve.proofs.Cutting.{listed-keep, solved-by-cut}
+use lib.Seq.{drop-length}
+use borrow.Rule.Slice.PartMut.{same-len-mid, drop-put}
+use Rattle.solve.proofs.Cutting.{rest-length, part-length, part-same, past-part, next-block}
+use Rattle.solve.proofs.Cutting.{same-at, same-rest, same-part, first-of, listed-rest}
+use lib.ListN.{length-take, length-drop}
+use Prim.Native.Nat.{suc, _+_, _-_, _*_, _≤_}
+use mathlib.Core.Bool.{not}
+use mathlib.Core.List.{List, map}
+use mathlib.Core.Path.{_≡_, refl, sym, ap, _∙_}
+use borrow.Author.Needs.{needs}
+use native.Mathlib.Omega.{arith}
+use lib.Dec.{eqb}
+use lib.ListN.{length, getD, take, drop}
+use Rattle.rules.specs.Words.{keep}
+use Rattle.method.specs.Hours.{deskEnd}
+use Rattle.blocksteps.specs.Listed.{entryIn, tiedIn, Extends}
+use Rattle.method.specs.Board.{boardIn, whom, Tables}
+use Rattle.solve.proofs.Cutting.{onward, one-block, no-block, listed-part, solved-nobody, fewer, solved-others}
+use Prim.Native.Nat.{ℕ, _<_}
+use borrow.Fn.Kinds.{In}
+use borrow.Fn.PlainCycle.{Measures, is, falls, and}
+use Rattle.solve.proofs.sets.cut_set.Reads as cut-set
+use Rattle.solve.proofs.sets.cut_set.Kinds as cut-set-kinds
+use Rattle.solve.proofs.sets.+cut_set+solve_block.Lts-cut_set as cut-set-lts
+use Rattle.solve.proofs.sets.solve_block.Reads as solve-block
+use Rattle.solve.proofs.sets.solve_block.Kinds as solve-block-kinds
+use Rattle.solve.proofs.sets.+cut_set+solve_block.Lts-solve_block as solve-block-lts
+use Rattle.blocksteps.proofs.aside.set_aside.Reads as set-aside-reads
+use Rattle.blocksteps.proofs.aside.without.Reads as without-reads
+use Rattle.blocksteps.proofs.board.give_slots.Reads as give-slots-reads
+use Rattle.blocksteps.proofs.gather.gather_block.Reads as gather-block-reads
+use Rattle.solve.proofs.sets.+cut_set+solve_block.{statement}
+use Rattle.solve.proofs.sets.+cut_set+solve_block.Tie.{close}
+
+abbrev μ-cut-set : Measures 10 cut-set-kinds.ps ℕ
+μ-cut-set κs a = 2 * length (a .1 .1 .1 .1 .1 .1 .0 .now) + 1
+
+abbrev μ-solve-block : Measures 10 solve-block-kinds.ps ℕ
+μ-solve-block κs a = 2 * length (a .1 .1 .1 .1 .1 .1 .0 .now)
+
+abbrev cut-set-at : ℕ → In 10 cut-set-kinds.ps
+cut-set-at t = and 10 cut-set-kinds.ps (is 10 cut-set-kinds.ps μ-cut-set t) cut-set.Pre
+
+abbrev cut-set-below : ℕ → In 10 cut-set-kinds.ps
+cut-set-below t = and 10 cut-set-kinds.ps (falls 10 cut-set-kinds.ps _<_ μ-cut-set t) cut-set.Pre
+
+abbrev solve-block-at : ℕ → In 10 solve-block-kinds.ps
+solve-block-at t =
+    and 10 solve-block-kinds.ps (is 10 solve-block-kinds.ps μ-solve-block t) solve-block.Pre
+
+abbrev solve-block-below : ℕ → In 10 solve-block-kinds.ps
+solve-block-below t =
+    and 10 solve-block-kinds.ps (falls 10 solve-block-kinds.ps _<_ μ-solve-block t) solve-block.Pre
+
+-- what each is told of what it calls, and below t of the other
+abbrev cut-set-calls : ℕ → cut-set-lts.Claims
+cut-set-calls t = (
+  gather-block-reads.Asked,
+  gather-block-reads.Learnt,
+  give-slots-reads.Asked,
+  give-slots-reads.Learnt,
+  solve-block-below t,
+  solve-block.Post,
+)
+
+abbrev solve-block-calls : ℕ → solve-block-lts.Claims
+solve-block-calls t = (
+  set-aside-reads.Asked,
+  set-aside-reads.Learnt,
+  without-reads.Asked,
+  without-reads.Learnt,
+  cut-set-below t,
+  cut-set.Post,
+)
+
+abbrev cut-set-Inv-loop : cut-set-lts.InvT-loop
+cut-set-Inv-loop m befores afters ready durations latests ids₀ aside from end marks₀ pieces₀ froms₀ untils₀ count k₀ t₀ at₀ ids marks pieces froms untils k t at =
+    (at ≤ length ids₀) × (length ids ≡ length ids₀) × (drop at ids ≡ drop at ids₀) × (length marks ≡ 256)
+    × Tables pieces froms untils × (k + 2 * (length ids₀ - at) ≤ count + 2 * length ids₀)
+    × ((f : ℕ) → length ids₀ ≤ f
+    → onward (tiedIn m befores afters) (entryIn ready durations latests) f (whom aside) end t (drop at ids₀)
+    (boardIn k pieces froms untils)
+    ≡ onward (tiedIn m befores afters) (entryIn ready durations latests) f (whom aside) end from ids₀
+    (boardIn count pieces₀ froms₀ untils₀))
+
+abbrev cut-set-μ-loop : cut-set-lts.MeasureT-loop
+cut-set-μ-loop m befores afters ready durations latests ids₀ aside from end marks₀ pieces₀ froms₀ untils₀ count k₀ t₀ at₀ ids marks pieces froms untils k t at = length ids₀ - at
+
+-- the block gathered is the first of the rest of the list
+extent : (t : ℕ)
+    (c : cut-set-lts.After-gather-block (cut-set-calls t) (cut-set-at t) cut-set.Post cut-set-Inv-loop cut-set-μ-loop)
+    → let a = c .before .before .before .before .before .before .before .before .args in
+    let s = c .before .before .before .before .before .before .loop in
+    Extends (entryIn (a .ready .now) (a .durations .now) (a .latests .now)) (drop (s .at) (a .ids .now))
+    (c .gather-block .result .count) (c .gather-block .result .end)
+extent t c =
+    let a = c .before .before .before .before .before .before .before .before .args in
+    let s = c .before .before .before .before .before .before .loop in
+    rw (same-rest (s .ids) (a .ids .now) (s .at) (s .inv .2)) at (c .gather-block .ensures (a .latests .now))
+
+inside : (t : ℕ)
+    (c : cut-set-lts.After-gather-block (cut-set-calls t) (cut-set-at t) cut-set.Post cut-set-Inv-loop cut-set-μ-loop)
+    → c .before .before .before .before .before .before .loop .at + c .gather-block .result .count ≤ length (c .before .before .before .before .before .before .before .before .args .ids .now)
+inside t c =
+    let a = c .before .before .before .before .before .before .before .before .args in
+    let s = c .before .before .before .before .before .before .loop in
+    omega (arith, extent t c .within, rest-length (a .ids .now) (s .at), s .inv .0)
+
+-- src/sets.rt:59:5
+cut-set-loop-holds : (t : ℕ) → cut-set-lts.Need-loop-holds (cut-set-calls t) (cut-set-at t) cut-set.Post cut-set-Inv-loop cut-set-μ-loop
+cut-set-loop-holds t c = (omega arith, refl, refl, c .before .pre .1 .marks-sized, c .before .pre .1 .tables, omega arith, λ f h. refl)
+
+-- src/sets.rt:60:21
+cut-set-mul-first : (t : ℕ) → cut-set-lts.Need-mul-first (cut-set-calls t) (cut-set-at t) cut-set.Post cut-set-Inv-loop cut-set-μ-loop
+cut-set-mul-first t c = omega (arith, c .before .before .before .pre .1 .listed .few)
+
+-- src/sets.rt:60:21
+cut-set-slice-read-first : (t : ℕ) → cut-set-lts.Need-slice-read-first (cut-set-calls t) (cut-set-at t) cut-set.Post cut-set-Inv-loop cut-set-μ-loop
+cut-set-slice-read-first t c = omega arith
+
+-- src/sets.rt:60:21
+cut-set-cast-first : (t : ℕ) → cut-set-lts.Need-cast-first (cut-set-calls t) (cut-set-at t) cut-set.Post cut-set-Inv-loop cut-set-μ-loop
+cut-set-cast-first t c = let s = c .before .before .loop in
+    let a = c .before .before .before .before .args in
+    let e : getD (s .ids) (s .at) 0 ≡ getD (a .ids .now) (s .at) 0 = same-at (s .ids) (a .ids .now) (s .at) (s .inv .2) in
+    omega (arith, c .before .before .before .before .pre .1 .listed .known (s .at) (omega arith))
+
+-- src/sets.rt:61:21
+cut-set-mul-start : (t : ℕ) → cut-set-lts.Need-mul-start (cut-set-calls t) (cut-set-at t) cut-set.Post cut-set-Inv-loop cut-set-μ-loop
+cut-set-mul-start t c = let s = c .before .before .loop in
+    let a = c .before .before .before .before .args in
+    let e : getD (s .ids) (s .at) 0 ≡ getD (a .ids .now) (s .at) 0 = same-at (s .ids) (a .ids .now) (s .at) (s .inv .2) in
+    omega (arith, c .before .before .before .before .pre .1 .listed .known (s .at) (omega arith))
+
+-- src/sets.rt:61:21
+cut-set-element-copy-out-start : (t : ℕ) → cut-set-lts.Need-element-copy-out-start (cut-set-calls t) (cut-set-at t) cut-set.Post cut-set-Inv-loop cut-set-μ-loop
+cut-set-element-copy-out-start t c = let s = c .before .before .loop in
+    let a = c .before .before .before .before .args in
+    let e : getD (s .ids) (s .at) 0 ≡ getD (a .ids .now) (s .at) 0 = same-at (s .ids) (a .ids .now) (s .at) (s .inv .2) in
+    omega (arith, c .before .before .before .before .pre .1 .listed .known (s .at) (omega arith))
+
+-- src/sets.rt:62:34
+cut-set-mul-gather-block : (t : ℕ) → cut-set-lts.Need-mul-gather-block (cut-set-calls t) (cut-set-at t) cut-set.Post cut-set-Inv-loop cut-set-μ-loop
+cut-set-mul-gather-block t c = omega (arith, c .before .before .before .before .before .pre .1 .listed .few)
+
+-- src/sets.rt:62:34
+cut-set-sub-gather-block : (t : ℕ) → cut-set-lts.Need-sub-gather-block (cut-set-calls t) (cut-set-at t) cut-set.Post cut-set-Inv-loop cut-set-μ-loop
+cut-set-sub-gather-block t c = omega arith
+
+-- src/sets.rt:62:34
+cut-set-part-gather-block-start : (t : ℕ) → cut-set-lts.Need-part-gather-block-start (cut-set-calls t) (cut-set-at t) cut-set.Post cut-set-Inv-loop cut-set-μ-loop
+cut-set-part-gather-block-start t c = omega arith
+
+-- src/sets.rt:62:34
+cut-set-part-gather-block-end : (t : ℕ) → cut-set-lts.Need-part-gather-block-end (cut-set-calls t) (cut-set-at t) cut-set.Post cut-set-Inv-loop cut-set-μ-loop
+cut-set-part-gather-block-end t c = search needs
+
+-- src/sets.rt:62:13
+cut-set-gather-block-requires : (t : ℕ) → cut-set-lts.Need-gather-block-requires (cut-set-calls t) (cut-set-at t) cut-set.Post cut-set-Inv-loop cut-set-μ-loop
+cut-set-gather-block-requires t c κs = let s = c .before .before .before .before .before .loop in
+    let a = c .before .before .before .before .before .before .before .args in
+    let e = same-rest (s .ids) (a .ids .now) (s .at) (s .inv .2) in (
+      rw e (listed-rest _ (a .ids .now) (s .at) (c .before .before .before .before .before .before .before .pre .1 .listed) (omega arith)),
+      rw (e, length-drop) (omega arith),
+    )
+
+-- src/sets.rt:63:20
+cut-set-add-next : (t : ℕ) → cut-set-lts.Need-add-next (cut-set-calls t) (cut-set-at t) cut-set.Post cut-set-Inv-loop cut-set-μ-loop
+cut-set-add-next t c = omega (arith, c .before .before .before .before .before .before .before .before .before .pre .1 .listed .few, inside t (c .before))
+
+-- src/sets.rt:65:9
+cut-set-give-slots-requires : (t : ℕ) → cut-set-lts.Need-give-slots-requires (cut-set-calls t) (cut-set-at t) cut-set.Post cut-set-Inv-loop cut-set-μ-loop
+cut-set-give-slots-requires t c κs = (c .before .before .before .before .before .before .before .before .before .before .loop .inv .4, omega (arith, c .before .before .before .before .before .before .before .before .before .before .before .before .pre .1 .room))
+
+-- src/sets.rt:73:13
+cut-set-mul-solve-block : (t : ℕ) → cut-set-lts.Need-mul-solve-block (cut-set-calls t) (cut-set-at t) cut-set.Post cut-set-Inv-loop cut-set-μ-loop
+cut-set-mul-solve-block t c = omega (arith, c .before .before .before .before .before .before .before .before .before .before .before .before .before .pre .1 .listed .few)
+
+-- src/sets.rt:73:13
+cut-set-sub-solve-block : (t : ℕ) → cut-set-lts.Need-sub-solve-block (cut-set-calls t) (cut-set-at t) cut-set.Post cut-set-Inv-loop cut-set-μ-loop
+cut-set-sub-solve-block t c = omega arith
+
+-- src/sets.rt:73:13
+cut-set-part-solve-block-start : (t : ℕ) → cut-set-lts.Need-part-solve-block-start (cut-set-calls t) (cut-set-at t) cut-set.Post cut-set-Inv-loop cut-set-μ-loop
+cut-set-part-solve-block-start t c = omega arith
+
+-- src/sets.rt:73:13
+cut-set-part-solve-block-end : (t : ℕ) → cut-set-lts.Need-part-solve-block-end (cut-set-calls t) (cut-set-at t) cut-set.Post cut-set-Inv-loop cut-set-μ-loop
+cut-set-part-solve-block-end t c = omega (arith, inside t (c .before .before .before .before .before), c .before .before .before .before .before .before .before .before .before .before .before .loop .inv .1)
+
+-- src/sets.rt:66:9
+cut-set-solve-block-requires : (t : ℕ) → cut-set-lts.Need-solve-block-requires (cut-set-calls t) (cut-set-at t) cut-set.Post cut-set-Inv-loop cut-set-μ-loop
+cut-set-solve-block-requires t c κs = let a = c .before .before .before .before .before .before .before .before .before .before .before .before .before .before .before .before .before .before .args in
+    let s = c .before .before .before .before .before .before .before .before .before .before .before .before .before .before .before .before .loop in
+    let n = c .before .before .before .before .before .before .before .before .before .before .gather-block .result .count in
+    let p = c .before .before .before .before .before .before .before .before .before .before .before .before .before .before .before .before .before .before .pre .1 in
+    let i : s .at + n ≤ length (a .ids .now) = inside t (c .before .before .before .before .before .before .before .before .before .before) in
+    let l : length (take (s .at + n - s .at) (drop (s .at) (s .ids))) ≡ n =
+    part-length (s .ids) (s .at) n (omega (arith, s .inv .1)) in (
+      omega (arith, l, c .before .before .before .before .before .before .before .before .before .before .before .before .before .before .before .before .before .before .pre .0),
+      record {
+        links = p .links;
+        listed = rw (part-same (s .ids) (a .ids .now) (s .at) n (s .inv .2)) (listed-part _ (a .ids .now) (s .at) n (p .listed) i);
+        marks-sized = s .inv .3;
+        tables = c .before .before .before .before .before .give-slots .ensures .tables;
+        room = omega (arith, l, c .before .before .before .before .before .give-slots .ensures .few, p .room, s .inv .5);
+      },
+    )
+
+-- src/sets.rt:59:5
+cut-set-loop-less : (t : ℕ) → cut-set-lts.Need-loop-less (cut-set-calls t) (cut-set-at t) cut-set.Post cut-set-Inv-loop cut-set-μ-loop
+cut-set-loop-less t c = omega (arith, inside t (c .before .before .before .before .before .before .before .before .before .before .before .before .before), extent t (c .before .before .before .before .before .before .before .before .before .before .before .before .before) .some-one)
+
+-- src/sets.rt:59:5
+cut-set-loop-again : (t : ℕ) → cut-set-lts.Need-loop-again (cut-set-calls t) (cut-set-at t) cut-set.Post cut-set-Inv-loop cut-set-μ-loop
+cut-set-loop-again t c = let a = c .before .before .before .before .before .before .before .before .before .before .before .before .before .before .before .before .before .before .before .before .before .args in
+    let s = c .before .before .before .before .before .before .before .before .before .before .before .before .before .before .before .before .before .before .before .loop in
+    let n = c .before .before .before .before .before .before .before .before .before .before .before .before .before .gather-block .result .count in
+    let i : s .at + n ≤ length (a .ids .now) = inside t (c .before .before .before .before .before .before .before .before .before .before .before .before .before) in
+    let l : length (take (s .at + n - s .at) (drop (s .at) (s .ids))) ≡ n =
+    part-length (s .ids) (s .at) n (omega (arith, s .inv .1)) in
+    let ys = c .before .before .solve-block .last .1 .1 .1 .1 .1 .1 .0 in
+    let k = c .before .before .solve-block .kept .1 .1 .1 .1 .1 .1 .0 in (
+      i,
+      same-len-mid (s .at) (s .at + n - s .at) (s .ids) ys k ∙ s .inv .1,
+      drop-put (s .at) (s .at + n) (s .ids) ys (omega arith) (omega (arith, s .inv .1)) (k ∙ l ∙ omega arith)
+          ∙ past-part (s .ids) (a .ids .now) (s .at) n (s .inv .2),
+      c .before .before .solve-block .ensures .0 .marks-sized,
+      c .before .before .solve-block .ensures .0 .tables,
+      omega (
+        arith,
+        l,
+        extent t (c .before .before .before .before .before .before .before .before .before .before .before .before .before) .some-one,
+        c .before .before .before .before .before .before .before .before .give-slots .ensures .few,
+        c .before .before .solve-block .ensures .0 .few,
+        s .inv .5,
+      ),
+      λ f h.
+          next-block (a .m) (a .befores .now) (a .afters .now) (a .ready .now) (a .durations .now) (a .latests .now)
+          (s .ids) (a .ids .now) (s .at) n (c .before .before .before .before .before .before .before .before .before .before .before .before .before .gather-block .result .end) f (a .aside) (a .end) (s .t) (s .inv .2)
+          _ _ _ (extent t (c .before .before .before .before .before .before .before .before .before .before .before .before .before))
+          (c .before .before .before .before .before .before .before .before .give-slots .ensures .board) (c .before .before .solve-block .ensures .1) (omega (arith, l))
+          ∙ s .inv .6 f h,
+    )
+
+-- src/sets.rt:85:5
+cut-set-give-slots-requires-2 : (t : ℕ) → cut-set-lts.Need-give-slots-requires-2 (cut-set-calls t) (cut-set-at t) cut-set.Post cut-set-Inv-loop cut-set-μ-loop
+cut-set-give-slots-requires-2 t c κs = (c .before .before .before .before .loop .inv .4, omega (arith, c .before .before .before .before .before .before .pre .1 .room))
+
+-- src/sets.rt:16:1
+cut-set-same-length : (t : ℕ) → cut-set-lts.Need-same-length (cut-set-calls t) (cut-set-at t) cut-set.Post cut-set-Inv-loop cut-set-μ-loop
+cut-set-same-length t c = c .before .before .before .before .before .loop .inv .1
+
+-- src/sets.rt:16:1
+cut-set-returns : (t : ℕ) → cut-set-lts.Need-returns (cut-set-calls t) (cut-set-at t) cut-set.Post cut-set-Inv-loop cut-set-μ-loop
+cut-set-returns t c = let a = c .before .before .before .before .before .before .before .args in
+    let s = c .before .before .before .before .before .loop in
+    let g = c .give-slots2 .ensures in (
+      record {
+        marks-sized = s .inv .3;
+        tables = g .tables;
+        few = omega (arith, g .few, s .inv .5);
+      },
+      λ f h.
+          g .board ∙ no-block _ _ f (whom (a .aside)) (a .end) (drop (s .at) (a .ids .now)) (s .t) _
+          (let e : s .at ≡ length (a .ids .now) = omega (arith, s .inv .1) in rw e (drop-length (a .ids .now)))
+          ∙ s .inv .6 f h,
+    )
+
+-- src/sets.rt:128:9
+solve-block-set-aside-requires : (t : ℕ) → solve-block-lts.Need-set-aside-requires (solve-block-calls t) (solve-block-at t) solve-block.Post
+solve-block-set-aside-requires t c κs = (c .before .before .before .pre .1 .links, (c .before .before .before .pre .1 .listed .known, c .before .before .before .pre .1 .marks-sized))
+
+-- src/sets.rt:130:9
+solve-block-same-length : (t : ℕ) → solve-block-lts.Need-same-length (solve-block-calls t) (solve-block-at t) solve-block.Post
+solve-block-same-length t c = refl
+
+-- src/sets.rt:130:9
+solve-block-returns : (t : ℕ) → solve-block-lts.Need-returns (solve-block-calls t) (solve-block-at t) solve-block.Post
+solve-block-returns t c = let a = c .before .before .before .before .before .args in (
+  record {
+    marks-sized = c .before .set-aside .ensures .1;
+    tables = c .before .before .before .before .before .pre .1 .tables;
+    few = omega arith;
+  },
+  λ f work h e.
+      solved-nobody (a .m) _ _ (a .ready .now) (a .durations .now) _ (a .ids .now) (a .from) work f
+      (c .before .set-aside .result) (c .before .set-aside .ensures .0) _ (c .if1 .taken),
+)
+
+-- src/sets.rt:132:9
+solve-block-without-requires : (t : ℕ) → solve-block-lts.Need-without-requires (solve-block-calls t) (solve-block-at t) solve-block.Post
+solve-block-without-requires t c κs = tt
+
+-- src/sets.rt:140:9
+solve-block-slice-relend-prefix-cut-set :
+    (t : ℕ) → solve-block-lts.Need-slice-relend-prefix-cut-set (solve-block-calls t) (solve-block-at t) solve-block.Post
+solve-block-slice-relend-prefix-cut-set t c = c .before .before .without .ensures .within
+
+-- src/sets.rt:140:9
+solve-block-slice-aggregate-cut-set : (t : ℕ) → solve-block-lts.Need-slice-aggregate-cut-set (solve-block-calls t) (solve-block-at t) solve-block.Post
+solve-block-slice-aggregate-cut-set t c = sym (length-take-le _ (c .before .before .before .without .last .0) (c .before .before .before .without .ensures .within))
+
+-- src/sets.rt:133:5
+solve-block-cut-set-requires : (t : ℕ) → solve-block-lts.Need-cut-set-requires (solve-block-calls t) (solve-block-at t) solve-block.Post
+solve-block-cut-set-requires t c κs = let a = c .before .before .before .before .before .before .before .before .before .before .before .before .before .before .args in
+    let p = c .before .before .before .before .before .before .before .before .before .before .before .before .before .before .pre .1 in
+    let w = c .before .before .before .before .before .before .before .without .ensures in
+    let x = c .before .before .before .before .before .before .before .before .before .before .set-aside .result in
+    let l : length (take (c .before .before .before .before .before .before .before .without .result) (c .before .before .before .before .before .before .before .without .last .0)) < length (a .ids .now) =
+    rw (w .rest) (fewer (a .m) _ _ (a .ready .now) (a .durations .now) _ (a .ids .now) 0 0 0 x
+    (c .before .before .before .before .before .before .before .before .before .before .set-aside .ensures .0) (c .before .before .before .before .before .before .before .before .before .if1 .left)) in (
+      omega (arith, l, c .before .before .before .before .before .before .before .before .before .before .before .before .before .before .pre .0),
+      record {
+        links = p .links;
+        listed = rw (w .rest) (listed-keep _ (a .ids .now) _ (p .listed));
+        marks-sized = c .before .before .before .before .before .before .before .before .before .before .set-aside .ensures .1;
+        tables = p .tables;
+        room = omega (arith, l, p .room);
+      },
+    )
+
+-- src/sets.rt:89:1
+solve-block-same-length-2 : (t : ℕ) → solve-block-lts.Need-same-length-2 (solve-block-calls t) (solve-block-at t) solve-block.Post
+solve-block-same-length-2 t c = length-front (c .before .before .before .before .before .before .before .before .before .before .without .last .0) (c .before .before .cut-set .last .1 .1 .1 .1 .1 .1 .0) (c .before .before .before .before .before .before .before .before .before .before .without .result)
+    (c .before .before .cut-set .kept .1 .1 .1 .1 .1 .1 .0)
+    ∙ c .before .before .before .before .before .before .before .before .before .before .without .kept .0
+
+-- src/sets.rt:89:1
+solve-block-returns-2 : (t : ℕ) → solve-block-lts.Need-returns-2 (solve-block-calls t) (solve-block-at t) solve-block.Post
+solve-block-returns-2 t c = let a = c .before .before .before .before .before .before .before .before .before .before .before .before .before .before .before .before .before .args in
+    let w = c .before .before .before .before .before .before .before .before .before .before .without .ensures in
+    let x = c .before .before .before .before .before .before .before .before .before .before .before .before .before .set-aside .result in
+    let g = c .before .before .cut-set .ensures in
+    let l : length (take (c .before .before .before .before .before .before .before .before .before .before .without .result) (c .before .before .before .before .before .before .before .before .before .before .without .last .0)) < length (a .ids .now) =
+    rw (w .rest) (fewer (a .m) _ _ (a .ready .now) (a .durations .now) _ (a .ids .now) 0 0 0 x
+    (c .before .before .before .before .before .before .before .before .before .before .before .before .before .set-aside .ensures .0) (c .before .before .before .before .before .before .before .before .before .before .before .before .if1 .left)) in (
+      record {
+        marks-sized = g .0 .marks-sized;
+        tables = g .0 .tables;
+        few = omega (arith, l, g .0 .few);
+      },
+      λ f work h e.
+          solved-by-cut (a .m) _ _ (a .ready .now) (a .durations .now) _ (a .ids .now) (a .from) work f x
+          (c .before .before .before .before .before .before .before .before .before .before .before .before .before .set-aside .ensures .0) _ (a .end) _ _ (c .before .before .before .before .before .before .before .before .before .before .before .before .if1 .left) (w .rest) h e (g .1),
+    )
+
+pub +cut-set+solve-block-spec : {M : Type 1} → statement M
++cut-set+solve-block-spec = close μ-cut-set μ-solve-block (λ t. cut-set-lts.spec
+    (cut-set-calls t)
+    (cut-set-at t)
+    cut-set.Post
+    cut-set-Inv-loop
+    cut-set-μ-loop
+    (cut-set-loop-holds t)
+    (cut-set-mul-first t)
+    (cut-set-slice-read-first t)
+    (cut-set-cast-first t)
+    (cut-set-mul-start t)
+    (cut-set-element-copy-out-start t)
+    (cut-set-mul-gather-block t)
+    (cut-set-sub-gather-block t)
+    (cut-set-part-gather-block-start t)
+    (cut-set-part-gather-block-end t)
+    (cut-set-gather-block-requires t)
+    (cut-set-add-next t)
+    (cut-set-give-slots-requires t)
+    (cut-set-mul-solve-block t)
+    (cut-set-sub-solve-block t)
+    (cut-set-part-solve-block-start t)
+    (cut-set-part-solve-block-end t)
+    (cut-set-solve-block-requires t)
+    (cut-set-loop-less t)
+    (cut-set-loop-again t)
+    (cut-set-give-slots-requires-2 t)
+    (cut-set-same-length t)
+    (cut-set-returns t))
+    λ t. solve-block-lts.spec
+    (solve-block-calls t)
+    (solve-block-at t)
+    solve-block.Post
+    (solve-block-set-aside-requires t)
+    (solve-block-same-length t)
+    (solve-block-returns t)
+    (solve-block-without-requires t)
+    (solve-block-slice-relend-prefix-cut-set t)
+    (solve-block-slice-aggregate-cut-set t)
+    (solve-block-cut-set-requires t)
+    (solve-block-same-length-2 t)
+    (solve-block-returns-2 t)
