@@ -6,6 +6,7 @@ use lib.IntN.{ℤ, pos}
 use Rattle.rules.specs.Plan.{planAnswer, planBuffer}
 use Rattle.rules.specs.DeskRuns.{stretchFrom, stretchEnd}
 use Rattle.rules.specs.declared.PlanAnswer.{PlanAnswer}
+use Rattle.deskplan_text.specs.Promise.{listedCount, listedText}
 
 -- number, place, pieces, runs, end, worst
 abbrev pub planRow : PlanAnswer → List ℤ
@@ -19,3 +20,8 @@ pub record PlanCall (file buffer after : List ℕ) (row : List ℤ) : Type 0 whe
 -- first byte, byte after the last
 pub record RunsCall (records : List ℕ) (desk : ℕ) (row : List ℕ) : Type 0 where
   pub answered : row ≡ stretchFrom records desk ∷ stretchEnd records desk ∷ []
+
+-- how many bytes the listing has
+pub record ListingCall (file text after : List ℕ) (row : List ℕ) : Type 0 where
+  pub answered : row ≡ listedCount file text ∷ []
+  pub left-there : after ≡ listedText file text

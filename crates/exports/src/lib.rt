@@ -3,7 +3,7 @@
 ghost use mathlib.Core.Path.{_≡_};
 ghost use Prim.Native.Nat.{_<_, _^_};
 ghost use lib.IntN.{pos};
-ghost use Rattle.exports.specs.Calls.{PlanCall, RunsCall};
+ghost use Rattle.exports.specs.Calls.{PlanCall, RunsCall, ListingCall};
 
 // Numbers of an answer as signed numbers of 64 bits.
 fn small(x: u8) -> i64
@@ -54,4 +54,13 @@ pub extern "C" fn desk_runs(records: &[u8], desk: u8, stretch: &mut [u64; 2])
 {
     let s = records::stretch::stretch_of(records, desk);
     *stretch = [s.from as u64, s.end as u64];
+}
+
+// how many bytes the text took
+#[no_mangle]
+pub extern "C" fn desk_listing(file: &[u8], text: &mut [u8], written: &mut [u64; 1])
+    ensures { λ _. ⌜ ListingCall (now (file .entry)) (now (text .entry)) (now (text .exit)) (now (written .exit)) ⌝ }
+{
+    let count = deskplan_text::write_listing(file, text);
+    *written = [count as u64];
 }
