@@ -15,7 +15,9 @@ fn read_more(file: &mut [u8], done: usize) -> isize
 }
 
 // Reads until the file is full or the input ends: how many bytes came, or -1 where a read failed.
-fn read_file(file: &mut [u8]) -> isize {
+fn read_file(file: &mut [u8]) -> isize
+    requires { ⌜ length (now file) ≤ 20496 ⌝ }
+{
     let mut done = 0;
     while done < file.len() {
         let got = read_more(file, done);
@@ -24,7 +26,7 @@ fn read_file(file: &mut [u8]) -> isize {
         }
         let n = io::count(got, &file[done..]);
         if n == 0 {
-            break;
+            return done as isize;
         }
         done += n;
     }
