@@ -8,7 +8,7 @@ use native.Mathlib.Omega.{arith}
 use borrow.Author.Tests.{lt-ltb, le-ltb}
 use lib.Dec.{ltb}
 use lib.IntN.{ℤ, pos, _-ℤ_}
-use lib.ListN.{length, getD, length-append}
+use lib.ListN.{length, getD, drop, length-append}
 use lib.Seq.{sets}
 use Rattle.rules.specs.Words.{when, below, joined, greatest, worstOf, sum}
 use Rattle.rules.specs.Job.{Job, pieceCount, desk, refused, accepted}
@@ -20,7 +20,7 @@ use Rattle.rules.specs.Judgement.{fileOutcome}
 use Rattle.rules.specs.Listing.{pieceLine, runLine, totalLine, refusedLine, runLines, planListing, listingOf, listing}
 use Rattle.rules.specs.Plan.{runRecords, atFront, planNumbers, lateness}
 use Rattle.rules.specs.Tables.{Sound, jobIn}
-use Rattle.laws.proofs.Words.{map-same, mem-below, when-true, when-false}
+use Rattle.laws.proofs.Words.{by-test, map-same, mem-below, when-true, when-false}
 use Rattle.laws.proofs.Joined.{joined-append, length-joined, map-twice}
 use Rattle.links.proofs.LinkLaws.{job-pieces}
 use Rattle.steps.specs.Log.{loggedRuns}
@@ -48,6 +48,19 @@ listed-short file text h =
       counted = sym (when-true _ 0 (length (listing file)) e);
       left-there = sym (when-true _ text (atFront (listing file) text) e);
     }
+
+front-long : (written text : List ℕ) → length written ≤ length (atFront written text)
+unfolding atFront
+front-long written text = omega (arith, length-append written (drop (length written) text))
+
+-- A listing lies within its text.
+pub listed-within : (file text : List ℕ) (count : ℕ) (after : List ℕ) → ListingPromise file text count after → count ≤ length after
+unfolding listedCount listedText
+listed-within file text count after p = by-test (ltb (length text) 131072)
+    (λ e. let z : count ≡ 0 = p .counted ∙ when-true _ 0 (length (listing file)) e in omega (arith, z))
+    (λ e. let z : count ≡ length (listing file) = p .counted ∙ when-false _ 0 (length (listing file)) e in
+    let w : after ≡ atFront (listing file) text = p .left-there ∙ when-false _ text (atFront (listing file) text) e in
+    omega (arith, z, ap length w, front-long (listing file) text))
 
 -- The bytes of the listing, put at the front.
 pub listed-front : (file text bytes : List ℕ) (count : ℕ) (after : List ℕ) → enough ≤ length text → length bytes ≤ enough
