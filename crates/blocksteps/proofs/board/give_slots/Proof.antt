@@ -3,7 +3,7 @@ use Prim.Native.Nat.{_<_}
 use mathlib.Core.Path.{sym, ap, _∙_}
 use borrow.Author.Needs.{needs}
 use native.Mathlib.Omega.{arith}
-use Rattle.blocksteps.proofs.Stored.{touching-some, to-nobody, no-slots, longer, behind}
+use Rattle.blocksteps.proofs.Stored.{touching-some, share-one, to-nobody, no-slots, longer, behind}
 use Rattle.blocksteps.proofs.board.give_slots.Statement.{statement}
 use Rattle.blocksteps.proofs.board.give_slots.Tie as tie
 use Rattle.blocksteps.proofs.board.give_slots.Reads as reads
@@ -46,38 +46,39 @@ returns-3 c =
 
 -- src/board.rt:58:5
 mul-pieces : tie.Need-mul-pieces
-mul-pieces c = search needs
+mul-pieces c = omega (arith, share-one (c .before .before .before .before .before .before .args .piece) (c .before .before .before .before .before .if1 .left))
 
 -- src/board.rt:58:5
 element-write-pieces : tie.Need-element-write-pieces
-element-write-pieces c = search needs
+element-write-pieces c = omega (arith, share-one (c .before .before .before .before .before .before .args .piece) (c .before .before .before .before .before .if1 .left))
 
 -- src/board.rt:59:5
 mul-froms : tie.Need-mul-froms
-mul-froms c = search needs
+mul-froms c = omega (arith, share-one (c .before .before .before .before .before .before .args .piece) (c .before .before .before .before .before .if1 .left))
 
 -- src/board.rt:59:5
 element-write-froms : tie.Need-element-write-froms
-element-write-froms c = search needs
+element-write-froms c = omega (arith, share-one (c .before .before .before .before .before .before .args .piece) (c .before .before .before .before .before .if1 .left))
 
 -- src/board.rt:60:5
 mul-untils-2 : tie.Need-mul-untils-2
-mul-untils-2 c = search needs
+mul-untils-2 c = omega (arith, share-one (c .before .before .before .before .before .before .args .piece) (c .before .before .before .before .before .if1 .left))
 
 -- src/board.rt:60:5
 element-write-untils-2 : tie.Need-element-write-untils-2
-element-write-untils-2 c = search needs
+element-write-untils-2 c = omega (arith, share-one (c .before .before .before .before .before .before .args .piece) (c .before .before .before .before .before .if1 .left))
 
 -- src/board.rt:61:5
 add-result : tie.Need-add-result
-add-result c = search needs
+add-result c = omega (arith, share-one (c .before .before .before .before .before .before .args .piece) (c .before .before .before .before .before .if1 .left))
 
 -- src/board.rt:29:1
 returns-4 : tie.Need-returns-4
 returns-4 c =
     let s = c .before .before .before .before .before .before in
     behind (s .args .count) _ _ _ (s .pre .0) _ _ _ (c .before .before .before .before .before .if1 .left) (omega arith)
-    (sym (c .before .touches .ensures (s .args .froms .now)) ∙ c .if3 .left) (omega arith)
+    (sym (c .before .touches .ensures (s .args .froms .now)) ∙ c .if3 .left)
+    (omega (arith, share-one (s .args .piece) (c .before .before .before .before .before .if1 .left)))
 
 pub give-slots-spec : {M : Type 1} → statement M
 give-slots-spec =

@@ -1,6 +1,7 @@
 -- Cutting a set and solving a block meet their contracts together: the count of pieces falls. What is left to cut from here
 -- gives the board of the whole set.
 use lib.Seq.{length-take-le, length-front}
+use Rattle.blocksteps.proofs.Stored.{share-most}
 use Rattle.solve.proofs.Cutting.{listed-keep, solved-by-cut}
 use lib.Seq.{drop-length}
 use borrow.Rule.Slice.PartMut.{same-len-mid, drop-put}
@@ -238,6 +239,7 @@ cut-set-loop-again t c = let a = c .before .before .before .before .before .befo
         c .before .before .before .before .before .before .before .before .give-slots .ensures .few,
         c .before .before .solve-block .ensures .0 .few,
         s .inv .5,
+        share-most (a .aside),
       ),
       λ f h.
           next-block (a .m) (a .befores .now) (a .afters .now) (a .ready .now) (a .durations .now) (a .latests .now)
@@ -320,7 +322,7 @@ solve-block-cut-set-requires t c κs = let a = c .before .before .before .before
         listed = rw (w .rest) (listed-keep _ (a .ids .now) _ (p .listed));
         marks-sized = c .before .before .before .before .before .before .before .before .before .before .set-aside .ensures .1;
         tables = p .tables;
-        room = omega (arith, l, p .room);
+        room = omega (arith, l, p .room, share-most x);
       },
     )
 
@@ -342,7 +344,7 @@ solve-block-returns-2 t c = let a = c .before .before .before .before .before .b
       record {
         marks-sized = g .0 .marks-sized;
         tables = g .0 .tables;
-        few = omega (arith, l, g .0 .few);
+        few = omega (arith, l, g .0 .few, share-most x);
       },
       λ f work h e.
           solved-by-cut (a .m) _ _ (a .ready .now) (a .durations .now) _ (a .ids .now) (a .from) work f x
