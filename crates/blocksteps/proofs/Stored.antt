@@ -55,6 +55,10 @@ pub share-one : (x : ℕ) → (x ≡ 65535 → ⊥) → share x ≡ 1
 unfolding share
 share-one x ne = when-false (eqb x 65535) 0 1 (ne-eqb x 65535 ne)
 
+pub share-none : share 65535 ≡ 0
+unfolding share when
+share-none = refl
+
 -- Nobody gets slots, and slots that are none.
 pub give-nobody : (f u : ℕ) (b : List Stretch) → give (whom 65535) f u b ≡ b
 unfolding whom when give
