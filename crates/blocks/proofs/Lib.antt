@@ -1,3 +1,4 @@
 pub mod Sorting
 pub mod Worst
 pub mod Recording
+pub mod DeskSheet

@@ -1,13 +1,13 @@
 -- The blocks of the first cutting put into their tables, one by one: what is left to cut from here gives all rows.
 -- Assumes nothing.
-use Prim.Native.Nat.{ℕ, zero, suc, _+_, _-_, _≤_, _<_}
-use mathlib.Core.List.{List, [], _∷_, _++_, map, append-assoc, append-nil, List·Memᴰ as Mem}
+use Prim.Native.Nat.{ℕ, zero, suc, _+_, _≤_, _<_}
+use mathlib.Core.List.{List, [], _∷_, _++_, map, append-assoc, append-nil}
 use mathlib.Core.Path.{_≡_, refl, sym, ap, _∙_}
 use native.Mathlib.Numerals.{add-one}
 use native.Mathlib.Omega.{arith}
 use lib.IntN.{ℤ}
 use lib.ListN.{length, getD, set, take, drop, length-set, length-map, length-drop}
-use lib.Seq.{getD-set-same, getD-set-other, length-take-le, drop-drop, drop-length, getD-drop, take-all}
+use lib.Seq.{getD-set-same, getD-set-other, length-take-le, drop-drop, drop-length, getD-drop}
 use Rattle.rules.specs.Words.{row, below}
 use Rattle.rules.specs.Entries.{Entry}
 use Rattle.rules.specs.Blocks.{Block, blockEnd, cutInOrder}

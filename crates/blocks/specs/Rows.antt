@@ -5,7 +5,6 @@ use mathlib.Core.Path.{_≡_}
 use lib.IntN.{ℤ, pos, _-ℤ_, natAbs}
 use lib.ListN.{length, getD}
 use Rattle.rules.specs.Words.{below}
-use Rattle.rules.specs.Entries.{Entry}
 use Rattle.rules.specs.Blocks.{Block, blockEnd, cutInOrder}
 use Rattle.method.specs.Hours.{deskEnd}
 use Rattle.blocksteps.specs.Listed.{entryIn}

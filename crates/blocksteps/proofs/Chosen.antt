@@ -1,13 +1,13 @@
 -- Who is set aside, looked for from the last piece of a block to the first: the best of those behind gives the best of all.
 -- And the list without it. Assumes nothing.
-use Prim.Native.Nat.{ℕ, zero, suc, _+_, _-_, _≤_, _<_}
+use Prim.Native.Nat.{ℕ, suc, _+_, _≤_, _<_}
 use mathlib.Core.Bool.{Bool, true, false, not, _&&_, _||_}
 use mathlib.Core.List.{List, [], _∷_, _++_, map, append-nil, List·Memᴰ as Mem, List·Memᴰ·head as here, List·Memᴰ·tail as there}
 use mathlib.Core.Option.{Option, none, some, Option·none-ne-some, Option·some-injective}
 use mathlib.Core.Path.{_≡_, refl, sym, ap, _∙_}
 use native.Mathlib.Numerals.{add-one}
 use native.Mathlib.Omega.{arith}
-use borrow.Author.Tests.{eq-eqb, ne-eqb, eqb-true, eqb-false}
+use borrow.Author.Tests.{eq-eqb, ne-eqb}
 use lib.Dec.{eqb, ltb}
 use lib.IntN.{ℤ, pos}
 use lib.ListN.{length, getD, set, take, drop, length-set}
@@ -18,13 +18,13 @@ use mir.Val.{SFits, toZ, ofZ}
 use mir.Facts.{toZ-ofZ}
 use Rattle.rules.specs.Words.{when, keep, oneOf}
 use Rattle.rules.specs.Entries.{Entry}
-use Rattle.rules.specs.Blocks.{Block, withoutFollower, costsLess, cheaper, cheapest, setAside, others}
-use Rattle.laws.proofs.Words.{by-test, when-true, when-false, keep-mem, mem-keep, mem-of-map, oneOf-intro}
+use Rattle.rules.specs.Blocks.{withoutFollower, costsLess, cheaper, cheapest, setAside, others}
+use Rattle.laws.proofs.Words.{by-test, when-true, when-false, mem-keep, mem-of-map, oneOf-intro}
 use Rattle.laws.proofs.Sound.{place-mem}
 use Rattle.theory.proofs.Lists.{_∈_}
 use Rattle.blocksteps.specs.Listed.{entryIn}
 use Rattle.method.specs.Board.{whom}
-use Rattle.blocksteps.specs.Aside.{optional, Marks, ledMark, Known, Cheaper, Aside, Without}
+use Rattle.blocksteps.specs.Aside.{optional, Marks, ledMark, Cheaper, Aside, Without}
 
 pub named-in : (ready durations : List ℕ) (latests : List ℤ) (i : ℕ) → entryIn ready durations latests i .number ≡ i
 unfolding entryIn

@@ -1,6 +1,5 @@
 -- A block while it is gathered, piece by piece: what is left to gather gives the blocks of the whole set. Assumes nothing.
-use Prim.Native.Nat.{ℕ, zero, suc, _+_, _≤_, _<_}
-use mathlib.Core.Bool.{true, false}
+use Prim.Native.Nat.{ℕ, suc, _+_, _≤_, _<_}
 use mathlib.Core.List.{List, [], _∷_, _++_, map}
 use mathlib.Core.Path.{_≡_, refl, sym, ap, _∙_}
 use native.Mathlib.Numerals.{add-one}
@@ -9,9 +8,8 @@ use borrow.Author.Tests.{le-leb, lt-leb}
 use lib.Dec.{leb}
 use lib.ListN.{length, getD, take, drop}
 use lib.Seq.{take-suc, drop-cons, drop-length}
-use Rattle.rules.specs.Words.{when}
 use Rattle.rules.specs.Entries.{Entry}
-use Rattle.rules.specs.Blocks.{Block, blockOf, gathered, blockEnd, gather, cutInOrder}
+use Rattle.rules.specs.Blocks.{Block, gathered, blockEnd, gather, cutInOrder}
 use Rattle.laws.proofs.Words.{when-true, when-false}
 use Rattle.method.specs.Hours.{deskEnd}
 use Rattle.blocksteps.specs.Listed.{Extends}

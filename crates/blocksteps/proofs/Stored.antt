@@ -1,19 +1,18 @@
 -- The board in its tables: a stretch stored behind the last one, or a later end stored in the last one, and what giving
 -- slots away makes of the tables. Assumes nothing.
 use Prim.Native.Nat.{ℕ, zero, suc, _+_, _-_, _≤_, _<_}
-use mathlib.Core.Bool.{Bool, true, false, _&&_}
+use mathlib.Core.Bool.{true, false, _&&_}
 use mathlib.Core.List.{List, [], _∷_}
-use mathlib.Core.Option.{Option, none, some}
 use mathlib.Core.Path.{_≡_, refl, sym, ap, _∙_}
 use native.Mathlib.Numerals.{add-one}
 use native.Mathlib.Omega.{arith}
 use borrow.Author.Tests.{lt-ltb, le-ltb, ne-eqb, eqb-true}
 use lib.Dec.{eqb, ltb}
-use lib.ListN.{length, getD, set, length-set}
+use lib.ListN.{getD, set, length-set}
 use lib.Seq.{getD-set-same, getD-set-other}
 use Rattle.rules.specs.Words.{when}
 use Rattle.laws.proofs.Words.{by-test, true-or-false, and-true, when-true, when-false}
-use Rattle.method.specs.Board.{Stretch, stretch, stretchAt, boardIn, touching, joined, give, Tables, Holds, whom}
+use Rattle.method.specs.Board.{Stretch, stretch, stretchAt, boardIn, touching, joined, give, Tables, Holds, whom, share}
 
 -- A board looks at its own places alone.
 pub board-same : (k : ℕ) (p f u q g v : List ℕ) → ((i : ℕ) → i < k → getD p i 0 ≡ getD q i 0)
@@ -45,6 +44,19 @@ pub touching-some : (x t k : ℕ) (p f u : List ℕ) → touching x t (boardIn k
 unfolding touching boardIn
 touching-some x t zero p f u h = true-or-false (sym h)
 touching-some x t (suc k) p f u h = omega arith
+
+-- What a gift can add.
+pub share-most : (x : ℕ) → share x ≤ 1
+unfolding share
+share-most x = by-test (eqb x 65535) (λ e. rw (e, when) (omega arith)) (λ e. rw (e, when) (omega arith))
+
+pub share-one : (x : ℕ) → (x ≡ 65535 → ⊥) → share x ≡ 1
+unfolding share
+share-one x ne = when-false (eqb x 65535) 0 1 (ne-eqb x 65535 ne)
+
+pub share-none : share 65535 ≡ 0
+unfolding share when
+share-none = refl
 
 -- Nobody gets slots, and slots that are none.
 pub give-nobody : (f u : ℕ) (b : List Stretch) → give (whom 65535) f u b ≡ b
@@ -106,7 +118,7 @@ module _ (k : ℕ) (p f u : List ℕ) (t : Tables p f u) (x from until : ℕ) wh
 
   -- What the tables hold after each way of giving slots away.
   abbrev Gives : List ℕ → List ℕ → List ℕ → ℕ → Type 0
-  Gives q g v r = Holds q g v r (k + 1) (give (whom x) from until (boardIn k p f u))
+  Gives q g v r = Holds q g v r (k + share x) (give (whom x) from until (boardIn k p f u))
 
   pub to-nobody : x ≡ 65535 → Gives p f u k
   to-nobody e = record {
@@ -138,6 +150,6 @@ module _ (k : ℕ) (p f u : List ℕ) (t : Tables p f u) (x from until : ℕ) wh
         froms-sized = length-set f k from ∙ t .froms-sized;
         untils-sized = length-set u k until ∙ t .untils-sized;
       };
-      few = omega arith;
+      few = omega (arith, share-one x ne);
       board = new-last h few ∙ sym (give-some x from until (boardIn k p f u) ne slots);
     }

@@ -9,8 +9,7 @@ use lib.Dec.{eqb}
 use lib.IntN.{ℤ}
 use lib.ListN.{length, getD, take}
 use Rattle.rules.specs.Words.{when, keep, oneOf}
-use Rattle.rules.specs.Entries.{Entry}
-use Rattle.rules.specs.Blocks.{Block, cheaper, setAside}
+use Rattle.rules.specs.Blocks.{cheaper, setAside}
 use Rattle.blocksteps.specs.Listed.{entryIn}
 use Rattle.method.specs.Board.{whom}
 

@@ -7,7 +7,7 @@ use lib.Dec.{eqb}
 use lib.IntN.{ℤ, pos}
 use lib.ListN.{length, getD, take, drop}
 use Rattle.rules.specs.Entries.{Entry}
-use Rattle.rules.specs.Blocks.{Block, cutInOrder}
+use Rattle.rules.specs.Blocks.{cutInOrder}
 use Rattle.method.specs.Hours.{deskEnd}
 
 -- The entry of piece i out of the tables of raised ready moments, durations and latest moments.

@@ -3,7 +3,7 @@
 ghost use mathlib.Core.List.{List};
 ghost use mathlib.Core.Path.{_≡_};
 ghost use Prim.Native.Nat.{ℕ, _+_, _≤_};
-ghost use Rattle.method.specs.Board.{Tables, Holds, boardIn, touching, give, whom};
+ghost use Rattle.method.specs.Board.{Tables, Holds, boardIn, touching, give, whom, share};
 
 // Stands for nobody, where no piece gets the slots.
 pub const NOBODY: u16 = 65535;
@@ -34,10 +34,10 @@ pub fn give_slots(
     until: u32,
 ) -> usize
     requires { ⌜ Tables (now pieces) (now froms) (now untils) ⌝ }
-    requires { ⌜ count + 1 ≤ 512 ⌝ }
+    requires { ⌜ count + share piece ≤ 512 ⌝ }
     ensures { λ r.
         ⌜
-        Holds (now (pieces .exit)) (now (froms .exit)) (now (untils .exit)) r (count + 1)
+        Holds (now (pieces .exit)) (now (froms .exit)) (now (untils .exit)) r (count + share piece)
         (give (whom piece) from until (boardIn count (now (pieces .entry)) (now (froms .entry)) (now (untils .entry))))
         ⌝ }
 {

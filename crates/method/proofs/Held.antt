@@ -5,13 +5,13 @@ use mathlib.Core.Bool.{Bool, true, false, _&&_}
 use mathlib.Core.List.{List, [], _∷_}
 use mathlib.Core.Logic.{⊎-elim}
 use mathlib.Core.Option.{Option, none, some}
-use mathlib.Core.Path.{_≡_, refl, sym, ap, _∙_}
+use mathlib.Core.Path.{_≡_, refl, sym, _∙_}
 use native.Mathlib.Omega.{arith}
-use borrow.Author.Tests.{ltb-true, ltb-false, leb-true, leb-false, le-leb, lt-leb, lt-ltb, le-ltb, eqb-true, eqb-false}
+use borrow.Author.Tests.{ltb-true, ltb-false, leb-true, le-leb, lt-leb, lt-ltb, le-ltb, eqb-true, eqb-false}
 use lib.Dec.{leb, ltb, eqb}
 use Rattle.rules.specs.Words.{when}
 use Rattle.laws.proofs.Words.{by-test, and-true, and-false, when-true, when-false}
-use Rattle.theory.proofs.Cases.{by-le, test-ext}
+use Rattle.theory.proofs.Cases.{by-le}
 use Rattle.method.specs.Board.{Stretch, stretch, touching, joined, give, holder}
 
 -- Stretch q is over when r begins, and is another piece's if they touch.

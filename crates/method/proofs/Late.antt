@@ -1,22 +1,21 @@
 -- The worst lateness on a desk, over its runs: each piece has a run, and its lateness is that of its last run.
-use Prim.Native.Nat.{ℕ, zero, suc, _+_, _≤_, _<_}
-use mathlib.Core.Bool.{Bool, true, false}
+use Prim.Native.Nat.{ℕ, _≤_}
 use mathlib.Core.List.{List, [], _∷_, map, List·Memᴰ as Mem, List·Memᴰ·head as here, List·Memᴰ·tail as there}
 use mathlib.Core.Logic.{_⊎_, inl, inr, ⊎-elim}
-use mathlib.Core.Option.{none, some}
-use mathlib.Core.Path.{_≡_, refl, sym, ap, _∙_}
+use mathlib.Core.Option.{none}
+use mathlib.Core.Path.{_≡_, refl, ap}
 use native.Mathlib.Omega.{arith}
 use borrow.Author.Tests.{ltb-true, eqb-true, eq-eqb}
 use lib.Dec.{ltb, eqb}
 use lib.IntN.{ℤ, pos, _-ℤ_}
-use Rattle.rules.specs.Words.{when, keep, greater, greatest, greatestZ, worstOf}
+use Rattle.rules.specs.Words.{when, keep, greater, greatest, worstOf}
 use Rattle.rules.specs.Job.{Job, deskPieces}
 use Rattle.rules.specs.Hours.{isOpen}
 use Rattle.rules.specs.Moments.{latest}
 use Rattle.rules.specs.Rings.{ringPiece}
 use Rattle.rules.specs.Tables.{Sound}
 use Rattle.rules.specs.Urgency.{horizon}
-use Rattle.rules.specs.Runs.{Run, runsFrom, turns}
+use Rattle.rules.specs.Runs.{Run, runsFrom}
 use Rattle.rules.specs.Entries.{Entry, entry, entries}
 use Rattle.rules.specs.Blocks.{blockWorked}
 use Rattle.rules.specs.BlockSheet.{blockRuns, blockLateness}
@@ -24,9 +23,8 @@ use Rattle.laws.proofs.Words.{by-test, mem-map, mem-of-map, mem-keep, keep-mem,
 use Rattle.laws.proofs.Signed.{up, dn, _≼_, same, minus, greatestZ-start, greatestZ-mem, greatestZ-least}
 use Rattle.laws.proofs.Hours.{always-open}
 use Rattle.theory.proofs.Turns.{turns-of, turnsOf}
-use Rattle.theory.proofs.RunTruth.{TrueRun}
 use Rattle.theory.proofs.RunOrder.{runs-true, runs-covering}
-use Rattle.method.proofs.OfDesk.{works-early, works-own, works-each}
+use Rattle.method.proofs.OfDesk.{works-own, works-each}
 
 -- The worst of a list of signed numbers.
 worst-mem : (l : List ℤ) (z : ℤ) → Mem z l → z ≼ worstOf l

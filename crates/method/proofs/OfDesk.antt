@@ -2,10 +2,10 @@
 -- same piece as the plan in every slot. The code does not rest on this; that its slots end by the horizon and that each
 -- piece is finished does.
 use Prim.Native.Nat.{ℕ, _+_, _-_, _≤_, _<_}
-use mathlib.Core.Bool.{Bool, true, false}
-use mathlib.Core.List.{List, map, List·Memᴰ as Mem}
-use mathlib.Core.Option.{Option, none, some}
-use mathlib.Core.Path.{_≡_, refl, sym, ap, _∙_}
+use mathlib.Core.Bool.{true}
+use mathlib.Core.List.{List·Memᴰ as Mem}
+use mathlib.Core.Option.{none, some}
+use mathlib.Core.Path.{_≡_, refl, sym, _∙_}
 use native.Mathlib.Omega.{arith}
 use lib.ListN.{length}
 use Rattle.rules.specs.Words.{isIt}
@@ -15,7 +15,7 @@ use Rattle.rules.specs.Moments.{sooner}
 use Rattle.rules.specs.Rings.{linked, ringPiece}
 use Rattle.rules.specs.Tables.{Sound}
 use Rattle.rules.specs.Urgency.{worked, horizon}
-use Rattle.rules.specs.Entries.{raised, Entry, entry, entries}
+use Rattle.rules.specs.Entries.{raised, entry, entries}
 use Rattle.rules.specs.Blocks.{costsLess, blockWorked}
 use Rattle.laws.proofs.Sound.{fits, linked-link}
 use Rattle.laws.proofs.Slots.{worked-chosen, mem-deskPieces, deskPieces-mem, isIt-true}

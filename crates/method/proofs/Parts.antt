@@ -2,19 +2,19 @@
 -- a part of, and is over by its end, since of a gathered block each entry is ready by the time that those before it could
 -- be done. Assumes nothing.
 use Prim.Native.Nat.{ℕ, _+_, _≤_, _<_}
-use mathlib.Core.Bool.{Bool, true, false}
-use mathlib.Core.List.{List, [], _∷_, _++_, append-nil, append-assoc, List·Memᴰ·append-cases, List·Memᴰ·eq-of-singleton}
-use mathlib.Core.List.{List·Memᴰ·head as here, List·Memᴰ·tail as there, Memᴰ·append-left, Memᴰ·append-right}
+use mathlib.Core.Bool.{Bool}
+use mathlib.Core.List.{List, [], _∷_, _++_, append-assoc, List·Memᴰ·append-cases, List·Memᴰ·eq-of-singleton}
+use mathlib.Core.List.{List·Memᴰ·head as here, List·Memᴰ·tail as there, Memᴰ·append-left}
 use mathlib.Core.Logic.{⊎-elim}
-use mathlib.Core.Path.{_≡_, refl, sym, ap, _∙_, subst}
+use mathlib.Core.Path.{_≡_, refl, subst}
 use native.Mathlib.Omega.{arith}
-use borrow.Author.Tests.{leb-true, leb-false}
+use borrow.Author.Tests.{leb-false}
 use lib.Dec.{leb}
 use Rattle.rules.specs.Words.{when, keep, sum}
 use Rattle.rules.specs.Entries.{Entry}
 use Rattle.rules.specs.Blocks.{Block, blockOf, gathered, blockEnd, gather, cutInOrder}
 use Rattle.laws.proofs.Words.{by-test}
-use Rattle.theory.proofs.Count.{cnt, cnt-mono}
+use Rattle.theory.proofs.Count.{cnt-mono}
 use Rattle.theory.proofs.Lists.{_∈_, by-mem, sumOf, sum-snoc}
 use Rattle.theory.proofs.Order.{Climbs, Ordered}
 use Rattle.theory.proofs.Hours.{Hours, openEnd-mono, openEnd-zero}

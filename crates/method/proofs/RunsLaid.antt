@@ -2,18 +2,18 @@
 -- desk works on one piece, so they are the rules' runs. Shown slot by slot. Assumes nothing.
 use Prim.Native.Nat.{ℕ, zero, suc, _+_, _-_, _≤_, _<_}
 use mathlib.Core.Bool.{Bool, true, false}
-use mathlib.Core.List.{List, [], _∷_, _++_, map}
+use mathlib.Core.List.{List, [], _∷_, map}
 use mathlib.Core.Option.{Option, none, some}
 use mathlib.Core.Path.{_≡_, refl, sym, ap, _∙_}
 use native.Mathlib.Numerals.{add-one}
 use native.Mathlib.Omega.{arith}
-use borrow.Author.Tests.{ne-eqb, eqb-true, eqb-false}
+use borrow.Author.Tests.{ne-eqb}
 use lib.Dec.{eqb}
 use Rattle.rules.specs.Words.{when, keep, row, below}
 use Rattle.rules.specs.Runs.{Turn, Run, newRun, longerRun, closing, goesOn, runsFrom}
 use Rattle.laws.proofs.Words.{when-true, when-false}
 use Rattle.laws.proofs.Slots.{none-or-some, some-inj}
-use Rattle.theory.proofs.Cases.{by-le, by-eq}
+use Rattle.theory.proofs.Cases.{by-eq}
 use Rattle.theory.proofs.Plans.{Plan}
 use Rattle.theory.proofs.Turns.{turnOf, turnsOf, runs-over, runs-rest, runs-longer, runs-new}
 use Rattle.method.specs.Board.{Stretch, runOf, holder}

@@ -1,21 +1,21 @@
 -- Sets of entries in order, and what is kept of them: in order of raised ready moment, then number; of different numbers;
 -- each more urgent than what follows it by a direct link. Sorting a set that is in order leaves it. Assumes nothing.
-use Prim.Native.Nat.{ℕ, _≤_, _<_}
-use mathlib.Core.Bool.{Bool, true, false, _&&_, _||_}
+use Prim.Native.Nat.{ℕ, _<_}
+use mathlib.Core.Bool.{Bool, true, _&&_}
 use mathlib.Core.List.{List, [], _∷_, _++_, Memᴰ·append-left, Memᴰ·append-right}
-use mathlib.Core.List.{List·Memᴰ·head as here, List·Memᴰ·tail as there}
+use mathlib.Core.List.{List·Memᴰ·head as here}
 use mathlib.Core.Logic.{_⊎_, inl, inr, ⊎-elim}
 use mathlib.Core.Path.{_≡_, refl, sym, ap, _∙_}
 use native.Mathlib.Omega.{arith}
-use borrow.Author.Tests.{ltb-true, ltb-false, lt-ltb, eqb-true, eq-eqb}
+use borrow.Author.Tests.{ltb-true, lt-ltb, eqb-true, eq-eqb}
 use lib.Dec.{ltb, eqb}
 use Rattle.rules.specs.Words.{when, keep}
 use Rattle.rules.specs.Entries.{Entry}
-use Rattle.rules.specs.Blocks.{Block, readyFirst, placed, inOrder, others}
+use Rattle.rules.specs.Blocks.{readyFirst, placed, inOrder}
 use Rattle.laws.proofs.Words.{by-test, and-true, and-intro, or-true, or-left, or-right, mem-keep, when-true}
 use Rattle.theory.proofs.Cases.{by-le, by-eq, clash}
-use Rattle.theory.proofs.Lists.{_∈_, by-mem, Distinct}
-use Rattle.theory.proofs.Order.{Urgency, Ordered, sorted, mem-sorted, sorted-distinct, sorted-ordered}
+use Rattle.theory.proofs.Lists.{_∈_, Distinct}
+use Rattle.theory.proofs.Order.{Urgency, Ordered, mem-sorted, sorted-distinct, sorted-ordered}
 use Rattle.theory.proofs.EntryOrder.{number}
 use Rattle.theory.proofs.SetAside.{LinksAhead, keep-distinct}
 use Rattle.theory.proofs.BlockMethod.{waits, in-order}

@@ -1,23 +1,21 @@
 -- THE BOARD HOLDS THE BLOCK METHOD: after a set was cut and its blocks were solved, each slot is held by whom the rules'
 -- block method works on in it, and the board is tidy. By induction on the cuttings. Assumes nothing.
 use Prim.Native.Nat.{ℕ, zero, suc, _+_, _≤_, _<_}
-use mathlib.Core.Bool.{Bool, true, false, _&&_}
+use mathlib.Core.Bool.{Bool, true, false}
 use mathlib.Core.List.{List, [], _∷_, map}
 use mathlib.Core.List.{List·Memᴰ·head as here, List·Memᴰ·tail as there}
 use mathlib.Core.Option.{Option, none, some}
 use mathlib.Core.Path.{_≡_, refl, sym, ap, _∙_}
 use native.Mathlib.Omega.{arith}
-use borrow.Author.Tests.{leb-true, leb-false, eqb-false, not-true}
-use lib.Dec.{leb, ltb, eqb}
 use lib.ListN.{length}
-use Rattle.rules.specs.Words.{when, orElse, sum, greatest}
+use Rattle.rules.specs.Words.{when, orElse, greatest}
 use Rattle.rules.specs.Entries.{Entry}
 use Rattle.rules.specs.Blocks.{Block, inOrder, blockEnd, cutInOrder, cut, setAside, others, isSlotOf, inBlock, inBlocks, setWorked}
-use Rattle.laws.proofs.Words.{by-test, true-or-false, when-true, when-false, greatest-of, mem-map}
+use Rattle.laws.proofs.Words.{by-test, true-or-false, when-true, when-false, greatest-of}
 use Rattle.theory.proofs.Cases.{by-le}
 use Rattle.theory.proofs.Hours.{Hours}
-use Rattle.theory.proofs.Lists.{_∈_, by-mem, Distinct, sumOf}
-use Rattle.theory.proofs.Plans.{busy, some-busy, busy-some}
+use Rattle.theory.proofs.Lists.{_∈_, Distinct, sumOf}
+use Rattle.theory.proofs.Plans.{busy}
 use Rattle.theory.proofs.EntryOrder.{number}
 use Rattle.theory.proofs.OneBlock.{lasting}
 use Rattle.theory.proofs.SetAside.{LinksAhead, set-aside, others-shorter, mem-others}

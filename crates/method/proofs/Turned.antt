@@ -1,13 +1,13 @@
 -- The board in the order of time: the last stretch first becomes the first stretch first, and nothing else changes. So the
 -- runs of a tidy board are read off its tables. Assumes nothing.
 use Prim.Native.Nat.{ℕ, zero, suc, _+_, _≤_, _<_}
-use mathlib.Core.Bool.{Bool, true, false}
+use mathlib.Core.Bool.{Bool, true}
 use mathlib.Core.List.{List, [], _∷_, map}
-use mathlib.Core.Option.{Option, none, some}
+use mathlib.Core.Option.{none, some}
 use mathlib.Core.Path.{_≡_, refl, sym, ap, _∙_}
 use native.Mathlib.Omega.{arith}
 use Rattle.rules.specs.Words.{when, orElse, row, below}
-use Rattle.rules.specs.Runs.{Run, runsFrom}
+use Rattle.rules.specs.Runs.{runsFrom}
 use Rattle.laws.proofs.Words.{by-test, when-true, when-false, map-twice}
 use Rattle.theory.proofs.Plans.{Plan}
 use Rattle.theory.proofs.Turns.{turnsOf}

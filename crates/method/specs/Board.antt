@@ -73,3 +73,8 @@ pub record Holds (pieces froms untils : List ℕ) (k n : ℕ) (b : List Stretch)
 unfoldable pub whom : ℕ → Option ℕ
 unfolding when
 whom p = when (eqb p 65535) none (some p)
+
+-- The stretches that a gift of slots can add: none for nobody.
+unfoldable pub share : ℕ → ℕ
+unfolding when
+share p = when (eqb p 65535) 0 1

@@ -1,8 +1,8 @@
 -- A job out of its tables, field by field and link by link; and how late a raised ready moment can be.
 use Prim.Native.Nat.{ℕ, _+_, _*_, _≤_, _<_}
-use mathlib.Core.List.{List, map, List·Memᴰ as Mem}
+use mathlib.Core.List.{List, List·Memᴰ as Mem}
 use mathlib.Core.Option.{none}
-use mathlib.Core.Path.{_≡_, refl, sym, ap, _∙_}
+use mathlib.Core.Path.{_≡_, ap, _∙_}
 use native.Mathlib.Omega.{arith}
 use lib.ListN.{length, getD, length-map}
 use Rattle.rules.specs.Words.{below}
@@ -10,7 +10,7 @@ use Rattle.rules.specs.Job.{Job, pieceCount, piece, desk, duration, noPiece}
 use Rattle.rules.specs.Hours.{openEnd}
 use Rattle.rules.specs.Rings.{ringPiece}
 use Rattle.rules.specs.Tables.{pieceIn, linkIn, piecesIn, linksIn, jobIn, Sound}
-use Rattle.rules.specs.Entries.{ready, raised, fromElsewhere, fromOwnDesk}
+use Rattle.rules.specs.Entries.{ready, raised}
 use Rattle.rules.specs.declared.Piece.{Piece}
 use Rattle.rules.specs.declared.Link.{Link}
 use Rattle.laws.proofs.Words.{length-below, getD-below, mem-below, below-mem, mem-map, mem-of-map}

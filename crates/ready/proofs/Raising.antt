@@ -1,34 +1,32 @@
 -- Moments raised along the links, link by link and round by round: they stay below the raised ready moments, a round without
 -- a change has them all, and so has round n + 1, since each round settles the pieces that one piece more leads to.
-use Prim.Native.Nat.{ℕ, zero, suc, _+_, _≤_, _<_}
+use Prim.Native.Nat.{ℕ, _+_, _≤_, _<_}
 use mathlib.Core.Bool.{Bool, true, false}
 use mathlib.Core.List.{List, List·Memᴰ as Mem}
 use mathlib.Core.Option.{none}
 use mathlib.Core.Path.{_≡_, refl, sym, ap, _∙_}
 use native.Mathlib.Nat.{le-antisymm}
-use native.Mathlib.Numerals.{add-one}
 use native.Mathlib.Omega.{arith}
-use borrow.Author.Tests.{eqb-true, eqb-false, eq-eqb, ne-eqb}
+use borrow.Author.Tests.{eq-eqb, ne-eqb}
 use lib.Dec.{eqb}
-use lib.ListN.{length, getD, set, length-set}
+use lib.ListN.{getD, set, length-set}
 use lib.Seq.{getD-set-same, getD-set-other}
-use Rattle.rules.specs.Words.{when}
 use Rattle.rules.specs.Job.{Job, pieceCount, piece, desk, duration, linksInto}
 use Rattle.rules.specs.Hours.{openEnd}
 use Rattle.rules.specs.Moments.{delay}
 use Rattle.rules.specs.Rings.{ringPiece}
 use Rattle.rules.specs.Tables.{linkIn, Sound}
 use Rattle.rules.specs.Urgency.{finish}
-use Rattle.rules.specs.Entries.{ready, raised, fromElsewhere, fromOwnDesk}
+use Rattle.rules.specs.Entries.{raised}
 use Rattle.rules.specs.declared.Link.{Link}
-use Rattle.laws.proofs.Words.{by-test, true-or-false, when-true, when-false}
+use Rattle.laws.proofs.Words.{true-or-false, when-true, when-false}
 use Rattle.laws.proofs.Sound.{link-fit, into-link, link-into, ahead, ahead-falls, ahead-few, along-before}
 use Rattle.laws.proofs.Raised.{elsewhere-link, link-elsewhere, own-link, link-own, ready-release, ready-after, ready-least, raised-ready, raised-after, raised-least}
 use Rattle.theory.proofs.Cases.{by-eq, by-le}
 use Rattle.demands.proofs.Finishes.{finish-most}
 use Rattle.method.specs.Hours.{deskEnd}
 use Rattle.ready.specs.Planned.{Planned, Tabled, Released, leaves, asks, Below, Risen, HoldsRaised}
-use Rattle.ready.proofs.FromTables.{job-count, job-desk, job-duration, job-release, link-mem, mem-link, links-few, raised-most}
+use Rattle.ready.proofs.FromTables.{job-count, job-desk, job-duration, link-mem, mem-link, links-few, raised-most}
 
 pub planned-tabled : (J : Job) (n m : ℕ) (desks durations releases befores afters handovers finishes : List ℕ)
     → Planned J n m desks durations releases befores afters handovers finishes

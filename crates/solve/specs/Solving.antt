@@ -1,13 +1,13 @@
 -- What cutting a set and solving a block ask of the tables lent to them, and what they leave in them.
-use Prim.Native.Nat.{ℕ, _+_, _*_, _-_, _≤_}
+use Prim.Native.Nat.{ℕ, _≤_}
 use mathlib.Core.List.{List, map}
 use mathlib.Core.Path.{_≡_}
 use lib.IntN.{ℤ}
 use lib.ListN.{length}
-use Rattle.rules.specs.Blocks.{Block, cutInOrder}
+use Rattle.rules.specs.Blocks.{cutInOrder}
 use Rattle.method.specs.Hours.{deskEnd}
 use Rattle.blocksteps.specs.Listed.{entryIn, tiedIn, Listed}
-use Rattle.method.specs.Board.{Stretch, boardIn, whom, Tables}
+use Rattle.method.specs.Board.{Stretch, whom, Tables}
 use Rattle.method.specs.Method.{around, solved}
 use Rattle.blocksteps.specs.Aside.{Tied}
 

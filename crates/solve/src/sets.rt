@@ -9,7 +9,7 @@ use blocksteps::board::give_slots;
 use blocksteps::gather::gather_block;
 ghost use Prim.Native.Nat.{_+_, _*_, _-_};
 ghost use lib.ListN.{length};
-ghost use Rattle.method.specs.Board.{boardIn};
+ghost use Rattle.method.specs.Board.{boardIn, share};
 ghost use Rattle.solve.specs.Solving.{Lent, Grown, CutOnto, SolvedOnto};
 
 // Cuts the listed set into blocks and solves each; the slots from `from` until `end` that are left are for `aside`.
@@ -32,12 +32,12 @@ pub fn cut_set(
 ) -> usize
     requires { ⌜
         Lent m (now befores) (now afters) (now ready) (now ids) (now marks) (now pieces) (now froms) (now untils)
-        (count + 2 * length (now ids) + 1)
+        (count + 2 * length (now ids) + share aside)
         ⌝ }
     ensures { λ r.
         ⌜
         Grown (now (marks .exit)) (now (pieces .exit)) (now (froms .exit)) (now (untils .exit)) r
-        (count + 2 * length (now (ids .entry)) + 1)
+        (count + 2 * length (now (ids .entry)) + share aside)
         ⌝ }
     ensures { λ r.
         ⌜

@@ -1,7 +1,7 @@
 -- `first_blocks` meets its contract: what is left to cut from here gives all rows.
 use Prim.Native.Nat.{_+_, _-_, _≤_}
 use mathlib.Core.List.{List, []}
-use mathlib.Core.Path.{_≡_, refl, sym, ap, _∙_}
+use mathlib.Core.Path.{refl}
 use borrow.Author.Needs.{needs}
 use native.Mathlib.Omega.{arith}
 use lib.IntN.{ℤ}
@@ -11,9 +11,6 @@ use Rattle.solve.proofs.Cutting.{same-rest, listed-rest}
 use Rattle.blocks.proofs.Recording.{Recording, recording-none, recording-more, recording-end}
 use Rattle.blocks.proofs.rows.first_blocks.Statement.{statement}
 use Rattle.blocks.proofs.rows.first_blocks.Tie as tie
-use Rattle.blocks.proofs.rows.first_blocks.Reads as reads
-use Rattle.blocks.proofs.rows.first_blocks.Lts as lts
-use Rattle.blocksteps.proofs.gather.gather_block.Reads as gather-block-reads
 
 abbrev Inv-loop : tie.InvT-loop
 Inv-loop ids ready durations counts₀ starts₀ ends₀ b₀ at₀ counts starts ends b at =
@@ -38,99 +35,76 @@ inside c =
     let s = c .before .before .before .before .loop in
     omega (arith, extent c [] .within, length-drop (s .at) (a .ids .now), s .inv .within)
 
--- src/rows.rt:32:5
 loop-holds : tie.Need-loop-holds Inv-loop μ-loop
 loop-holds c = recording-none _ _ _ _ _ _ (c .before .pre .1)
 
--- src/rows.rt:33:21
 mul-first : tie.Need-mul-first Inv-loop μ-loop
 mul-first c = omega (arith, c .before .before .before .pre .0 .few)
 
--- src/rows.rt:33:21
 shared-slice-read-first : tie.Need-shared-slice-read-first Inv-loop μ-loop
 shared-slice-read-first c = omega arith
 
--- src/rows.rt:33:21
 cast-first : tie.Need-cast-first Inv-loop μ-loop
 cast-first c = omega (arith, c .before .before .before .before .pre .0 .known (c .before .before .loop .at) (omega arith))
 
--- src/rows.rt:34:34
 mul-gather-block : tie.Need-mul-gather-block Inv-loop μ-loop
 mul-gather-block c = omega (arith, c .before .before .before .before .pre .0 .few)
 
--- src/rows.rt:34:34
 sub-gather-block : tie.Need-sub-gather-block Inv-loop μ-loop
 sub-gather-block c = omega arith
 
--- src/rows.rt:34:34
 part-gather-block-start : tie.Need-part-gather-block-start Inv-loop μ-loop
 part-gather-block-start c = omega arith
 
--- src/rows.rt:34:34
 part-gather-block-end : tie.Need-part-gather-block-end Inv-loop μ-loop
 part-gather-block-end c = search needs
 
--- src/rows.rt:34:13
 gather-block-requires : tie.Need-gather-block-requires Inv-loop μ-loop
 gather-block-requires c κs = let a = c .before .before .before .before .before .args in
     let s = c .before .before .before .loop in
     let e = same-rest (a .ids .now) (a .ids .now) (s .at) refl in
     (rw e (listed-rest _ (a .ids .now) (s .at) (c .before .before .before .before .before .pre .0) (omega arith)), rw (e, length-drop) (omega arith))
 
--- src/rows.rt:35:21
 cast-counts : tie.Need-cast-counts Inv-loop μ-loop
 cast-counts c = omega (arith, inside (c .before), c .before .before .before .before .before .before .before .pre .0 .few)
 
--- src/rows.rt:35:9
 mul-counts : tie.Need-mul-counts Inv-loop μ-loop
 mul-counts c = omega (arith, c .before .before .before .before .before .before .before .pre .0 .few, c .before .before .before .before .before .loop .inv .few)
 
--- src/rows.rt:35:9
 element-write-counts : tie.Need-element-write-counts Inv-loop μ-loop
 element-write-counts c = omega (arith, c .before .before .before .before .before .before .before .pre .0 .few, c .before .before .before .before .before .loop .inv .few)
 
--- src/rows.rt:36:21
 mul-starts : tie.Need-mul-starts Inv-loop μ-loop
 mul-starts c = omega (arith, c .before .before .before .before .before .before .before .pre .0 .known (c .before .before .before .before .before .loop .at) (omega arith))
 
--- src/rows.rt:36:21
 element-copy-out-starts : tie.Need-element-copy-out-starts Inv-loop μ-loop
 element-copy-out-starts c = omega (arith, c .before .before .before .before .before .before .before .pre .0 .known (c .before .before .before .before .before .loop .at) (omega arith))
 
--- src/rows.rt:36:9
 mul-starts-2 : tie.Need-mul-starts-2 Inv-loop μ-loop
 mul-starts-2 c = omega (arith, c .before .before .before .before .before .before .before .before .pre .0 .few, c .before .before .before .before .before .before .loop .inv .few)
 
--- src/rows.rt:36:9
 element-write-starts : tie.Need-element-write-starts Inv-loop μ-loop
 element-write-starts c = omega (arith, c .before .before .before .before .before .before .before .before .pre .0 .few, c .before .before .before .before .before .before .loop .inv .few)
 
--- src/rows.rt:37:9
 mul-ends : tie.Need-mul-ends Inv-loop μ-loop
 mul-ends c = omega (arith, c .before .before .before .before .before .before .before .before .pre .0 .few, c .before .before .before .before .before .before .loop .inv .few)
 
--- src/rows.rt:37:9
 element-write-ends : tie.Need-element-write-ends Inv-loop μ-loop
 element-write-ends c = omega (arith, c .before .before .before .before .before .before .before .before .pre .0 .few, c .before .before .before .before .before .before .loop .inv .few)
 
--- src/rows.rt:38:9
 add-b : tie.Need-add-b Inv-loop μ-loop
 add-b c = omega (arith, c .before .before .before .before .before .before .before .before .pre .0 .few, c .before .before .before .before .before .before .loop .inv .few)
 
--- src/rows.rt:39:14
 add-at : tie.Need-add-at Inv-loop μ-loop
 add-at c = omega (arith, inside (c .before .before .before), c .before .before .before .before .before .before .before .before .before .pre .0 .few)
 
--- src/rows.rt:32:5
 loop-less : tie.Need-loop-less Inv-loop μ-loop
 loop-less c = omega (arith, extent (c .before .before .before) [] .some-one)
 
--- src/rows.rt:32:5
 loop-again : tie.Need-loop-again Inv-loop μ-loop
 loop-again c = recording-more _ _ (c .before .before .before .before .before .before .before .before .before .args .ids .now) _ _ _ (c .before .before .before .before .before .before .before .loop .b) (c .before .before .before .before .before .before .before .loop .at) (c .before .before .before .before .before .before .before .loop .inv) _ _ (omega arith)
     (c .before .before .before .before .before .before .before .before .before .pre .0 .few) (extent (c .before .before .before))
 
--- src/rows.rt:12:1
 returns : tie.Need-returns Inv-loop μ-loop
 returns c = recording-end _ _ _ _ _ _ _ _ (c .before .loop .inv) (omega arith)
 

@@ -1,6 +1,6 @@
 -- `greater` meets its contract, by the test.
 use mathlib.Core.Bool.{true, false}
-use mathlib.Core.Path.{_≡_, refl, sym, ap, _∙_}
+use mathlib.Core.Path.{_≡_, sym, _∙_}
 use lib.Signed.{ltZ}
 use mir.Syntax.{w32}
 use mir.Val.{toZ, ofZ}
@@ -9,10 +9,7 @@ use Rattle.rules.specs.Words.{greaterZ}
 use Rattle.laws.proofs.Words.{when-true, when-false}
 use Rattle.blocks.proofs.rows.greater.Statement.{statement}
 use Rattle.blocks.proofs.rows.greater.Tie as tie
-use Rattle.blocks.proofs.rows.greater.Reads as reads
-use Rattle.blocks.proofs.rows.greater.Lts as lts
 
--- src/rows.rt:56:9
 returns : tie.Need-returns
 unfolding greaterZ
 returns c = let a = c .before .args in
@@ -21,7 +18,6 @@ returns c = let a = c .before .args in
     let k : ltZ (a .late) (a .worst) ≡ true = rw (toZ-ofZ (f .late), toZ-ofZ (f .worst)) at h in
     toZ-ofZ (f .worst) ∙ sym (when-true (ltZ (a .late) (a .worst)) (a .worst) (a .late) k)
 
--- src/rows.rt:52:1
 returns-2 : tie.Need-returns-2
 unfolding greaterZ
 returns-2 c = let a = c .before .args in

@@ -1,5 +1,4 @@
 -- `lateness` meets its contract: the difference fits.
-use mathlib.Core.Path.{_≡_, refl, sym, ap, _∙_}
 use native.Mathlib.Omega.{arith}
 use mir.Syntax.{w32}
 use mir.Facts.{toZ-ofZ, toZ-pos}
@@ -7,20 +6,15 @@ use Rattle.blocks.proofs.Worst.{late-fits}
 use borrow.Author.Needs.{needs}
 use Rattle.blocks.proofs.rows.lateness.Statement.{statement}
 use Rattle.blocks.proofs.rows.lateness.Tie as tie
-use Rattle.blocks.proofs.rows.lateness.Reads as reads
-use Rattle.blocks.proofs.rows.lateness.Lts as lts
 
--- src/rows.rt:49:5
 cast-result : tie.Need-cast-result
 cast-result c = search needs
 
--- src/rows.rt:49:5
 sub-result : tie.Need-sub-result
 sub-result c = let a = c .args in
     rw (toZ-pos w32 {n = a .until} (omega arith), toZ-ofZ (c .fits .latest))
     (late-fits (a .until) (a .latest) (c .pre .0) (c .pre .1))
 
--- src/rows.rt:44:1
 returns : tie.Need-returns
 returns c = let a = c .args in
     rw (

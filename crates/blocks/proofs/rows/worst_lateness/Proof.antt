@@ -3,7 +3,7 @@ use lib.IntN.{ℤ, pos, _-ℤ_}
 use lib.ListN.{getD}
 use mir.Val.{SFits}
 use Prim.Native.Nat.{suc, _-_, _≤_}
-use mathlib.Core.Path.{_≡_, refl, sym, ap, _∙_}
+use mathlib.Core.Path.{_≡_, sym, ap, _∙_}
 use borrow.Author.Needs.{needs}
 use native.Mathlib.Omega.{arith}
 use mir.Syntax.{w32}
@@ -14,10 +14,6 @@ use Rattle.blocks.specs.Rows.{lateIn}
 use Rattle.blocks.proofs.Worst.{back, WorstFrom, worst-none, worst-more, worst-all}
 use Rattle.blocks.proofs.rows.worst_lateness.Statement.{statement}
 use Rattle.blocks.proofs.rows.worst_lateness.Tie as tie
-use Rattle.blocks.proofs.rows.worst_lateness.Reads as reads
-use Rattle.blocks.proofs.rows.worst_lateness.Lts as lts
-use Rattle.blocks.proofs.rows.greater.Reads as greater-reads
-use Rattle.blocks.proofs.rows.lateness.Reads as lateness-reads
 
 abbrev Inv-loop : tie.InvT-loop
 Inv-loop latests pieces untils count p worst₀ k₀ worst k =
@@ -26,39 +22,31 @@ Inv-loop latests pieces untils count p worst₀ k₀ worst k =
 abbrev μ-loop : tie.MeasureT-loop
 μ-loop latests pieces untils count p worst₀ k₀ worst k = k
 
--- src/rows.rt:70:9
 returns : tie.Need-returns Inv-loop μ-loop
 unfolding worstOf below row
 returns c = rw (c .if1 .taken)
 
--- src/rows.rt:72:13
 element-copy-out-p : tie.Need-element-copy-out-p Inv-loop μ-loop
 element-copy-out-p c = omega arith
 
--- src/rows.rt:72:13
 cast-p : tie.Need-cast-p Inv-loop μ-loop
 cast-p c = omega (arith, c .before .before .pre .known 0 (omega arith))
 
--- src/rows.rt:73:30
 element-copy-out-lateness : tie.Need-element-copy-out-lateness Inv-loop μ-loop
 element-copy-out-lateness c = omega arith
 
--- src/rows.rt:73:41
 mul-lateness : tie.Need-mul-lateness Inv-loop μ-loop
 mul-lateness c = omega (arith, c .before .before .before .pre .known 0 (omega arith))
 
--- src/rows.rt:73:41
 element-copy-out-lateness-2 : tie.Need-element-copy-out-lateness-2 Inv-loop μ-loop
 element-copy-out-lateness-2 c = omega (arith, c .before .before .before .pre .known 0 (omega arith))
 
--- src/rows.rt:73:9
 lateness-requires : tie.Need-lateness-requires Inv-loop μ-loop
 lateness-requires c κs = let a = c .before .before .before .before .args in
     let f : SFits w32 (getD (a .latests .now) (getD (a .pieces .now) 0 0) (pos 0)) =
     record { sfits = c .lateness-arg2 .given } in
     (c .before .before .before .before .pre .early 0 (omega arith), rw (toZ-ofZ f) (c .before .before .before .before .pre .near 0 (omega arith)))
 
--- src/rows.rt:75:5
 loop-holds : tie.Need-loop-holds Inv-loop μ-loop
 loop-holds c = let a = c .before .before .before .before .before .args in
     let f : SFits w32 (getD (a .latests .now) (getD (a .pieces .now) 0 0) (pos 0)) =
@@ -70,39 +58,30 @@ loop-holds c = let a = c .before .before .before .before .before .args in
       back (c .lateness .result) (c .lateness .ok) ∙ e ∙ worst-none (lateIn (a .latests .now) (a .pieces .now) (a .untils .now)) (a .count),
     )
 
--- src/rows.rt:76:9
 sub-k : tie.Need-sub-k Inv-loop μ-loop
 sub-k c = omega arith
 
--- src/rows.rt:77:17
 mul-i : tie.Need-mul-i Inv-loop μ-loop
 mul-i c = omega (arith, c .before .before .before .before .before .before .before .pre .known (c .before .loop .k - 1) (omega arith), c .before .before .before .before .before .before .before .pre .few)
 
--- src/rows.rt:77:17
 element-copy-out-i : tie.Need-element-copy-out-i Inv-loop μ-loop
 element-copy-out-i c = omega (arith, c .before .before .before .before .before .before .before .pre .known (c .before .loop .k - 1) (omega arith), c .before .before .before .before .before .before .before .pre .few)
 
--- src/rows.rt:77:17
 cast-i : tie.Need-cast-i Inv-loop μ-loop
 cast-i c = omega (arith, c .before .before .before .before .before .before .before .before .pre .known (c .before .before .loop .k - 1) (omega arith), c .before .before .before .before .before .before .before .before .pre .few)
 
--- src/rows.rt:78:34
 mul-lateness-2 : tie.Need-mul-lateness-2 Inv-loop μ-loop
 mul-lateness-2 c = omega (arith, c .before .before .before .before .before .before .before .before .pre .known (c .before .before .loop .k - 1) (omega arith), c .before .before .before .before .before .before .before .before .pre .few)
 
--- src/rows.rt:78:34
 element-copy-out-lateness-3 : tie.Need-element-copy-out-lateness-3 Inv-loop μ-loop
 element-copy-out-lateness-3 c = omega (arith, c .before .before .before .before .before .before .before .before .pre .known (c .before .before .loop .k - 1) (omega arith), c .before .before .before .before .before .before .before .before .pre .few)
 
--- src/rows.rt:78:45
 mul-lateness-3 : tie.Need-mul-lateness-3 Inv-loop μ-loop
 mul-lateness-3 c = omega (arith, c .before .before .before .before .before .before .before .before .before .pre .known (c .before .before .before .loop .k - 1) (omega arith), c .before .before .before .before .before .before .before .before .before .pre .few)
 
--- src/rows.rt:78:45
 element-copy-out-lateness-4 : tie.Need-element-copy-out-lateness-4 Inv-loop μ-loop
 element-copy-out-lateness-4 c = omega (arith, c .before .before .before .before .before .before .before .before .before .pre .known (c .before .before .before .loop .k - 1) (omega arith), c .before .before .before .before .before .before .before .before .before .pre .few)
 
--- src/rows.rt:78:25
 lateness-requires-2 : tie.Need-lateness-requires-2 Inv-loop μ-loop
 lateness-requires-2 c κs = let a = c .before .before .before .before .before .before .before .before .before .before .args in
     let j = c .before .before .before .before .loop .k - 1 in
@@ -110,15 +89,12 @@ lateness-requires-2 c κs = let a = c .before .before .before .before .before .b
     record { sfits = c .lateness-arg4 .given } in
     (c .before .before .before .before .before .before .before .before .before .before .pre .early j (omega arith), rw (toZ-ofZ f) (c .before .before .before .before .before .before .before .before .before .before .pre .near j (omega arith)))
 
--- src/rows.rt:78:9
 greater-requires : tie.Need-greater-requires Inv-loop μ-loop
 greater-requires c κs = search needs
 
--- src/rows.rt:75:5
 loop-less : tie.Need-loop-less Inv-loop μ-loop
 loop-less c = omega arith
 
--- src/rows.rt:75:5
 loop-again : tie.Need-loop-again Inv-loop μ-loop
 loop-again c = let a = c .before .before .before .before .before .before .before .before .before .before .before .before .args in
     let s = c .before .before .before .before .before .before .loop in
@@ -138,7 +114,6 @@ loop-again c = let a = c .before .before .before .before .before .before .before
           ∙ worst-more late (a .count) j (omega arith),
     )
 
--- src/rows.rt:62:1
 returns-2 : tie.Need-returns-2 Inv-loop μ-loop
 returns-2 c = let a = c .before .before .before .before .before .before .before .args in
     let s = c .before .loop in

@@ -3,42 +3,30 @@ use lib.IntN.{pos}
 use lib.ListN.{getD}
 use mir.Syntax.{w32}
 use mir.Val.{SFits}
-use mathlib.Core.Path.{_≡_, refl, sym, ap, _∙_}
-use mathlib.Core.Bool.{true, false}
-use native.Mathlib.Omega.{arith}
+use mathlib.Core.Path.{_∙_}
 use Rattle.blocksteps.proofs.Chosen.{less-read, no-best, best-stays, new-best}
 use borrow.Author.Needs.{needs}
 use Rattle.blocksteps.proofs.aside.cheaper.Statement.{statement}
 use Rattle.blocksteps.proofs.aside.cheaper.Tie as tie
-use Rattle.blocksteps.proofs.aside.cheaper.Reads as reads
-use Rattle.blocksteps.proofs.aside.cheaper.Lts as lts
-use Rattle.blocksteps.proofs.aside.costs_less.Reads as costs-less-reads
 
--- src/aside.rt:83:9
 returns : tie.Need-returns
 returns c = no-best _ _ _ (c .before .pre .0) (c .if1 .taken)
 
--- src/aside.rt:87:19
 mul-costs-less : tie.Need-mul-costs-less
 mul-costs-less c = search needs
 
--- src/aside.rt:87:19
 element-copy-out-costs-less : tie.Need-element-copy-out-costs-less
 element-copy-out-costs-less c = c .before .pre .1 (c .if1 .left)
 
--- src/aside.rt:87:37
 mul-costs-less-2 : tie.Need-mul-costs-less-2
 mul-costs-less-2 c = search needs
 
--- src/aside.rt:87:37
 element-copy-out-costs-less-2 : tie.Need-element-copy-out-costs-less-2
 element-copy-out-costs-less-2 c = search needs
 
--- src/aside.rt:87:8
 costs-less-requires : tie.Need-costs-less-requires
 costs-less-requires c κs = search needs
 
--- src/aside.rt:88:9
 returns-2 : tie.Need-returns-2
 returns-2 c = let a = c .before .before .before .before .before .args in
     let fa : SFits w32 (getD (a .latests .now) (a .best) (pos 0)) =
@@ -49,7 +37,6 @@ returns-2 c = let a = c .before .before .before .before .before .args in
     (less-read (getD (a .latests .now) (a .best) (pos 0)) (getD (a .latests .now) (a .id) (pos 0)) (a .best) (a .id)
     (c .before .costs-less .result) fa fb (c .before .costs-less .ensures) ∙ c .if2 .taken)
 
--- src/aside.rt:77:1
 returns-3 : tie.Need-returns-3
 returns-3 c = let a = c .before .before .before .before .before .args in
     let fa : SFits w32 (getD (a .latests .now) (a .best) (pos 0)) =

@@ -2,18 +2,14 @@
 use Prim.Native.Nat.{ℕ, suc, _-_, _≤_, _<_}
 use mathlib.Core.Bool.{Bool}
 use mathlib.Core.List.{List}
-use mathlib.Core.Path.{_≡_, refl, sym, ap, _∙_}
-use borrow.Author.Needs.{needs}
+use mathlib.Core.Path.{_≡_, refl}
 use native.Mathlib.Omega.{arith}
-use lib.ListN.{length, getD}
+use lib.ListN.{length}
 use Rattle.blocksteps.specs.Listed.{entryIn}
 use Rattle.blocksteps.specs.Aside.{Marks, ledMark}
 use Rattle.blocksteps.proofs.Chosen.{named-in, BestFrom, best-of-none, best-skip, best-take, best-of-all}
 use Rattle.blocksteps.proofs.aside.cheapest.Statement.{statement}
 use Rattle.blocksteps.proofs.aside.cheapest.Tie as tie
-use Rattle.blocksteps.proofs.aside.cheapest.Reads as reads
-use Rattle.blocksteps.proofs.aside.cheapest.Lts as lts
-use Rattle.blocksteps.proofs.aside.cheaper.Reads as cheaper-reads
 
 abbrev Inv-loop : tie.InvT-loop
 Inv-loop ids latests marks best₀ k₀ best k =
@@ -24,7 +20,6 @@ Inv-loop ids latests marks best₀ k₀ best k =
 abbrev μ-loop : tie.MeasureT-loop
 μ-loop ids latests marks best₀ k₀ best k = k
 
--- src/aside.rt:105:5
 loop-holds : tie.Need-loop-holds Inv-loop μ-loop
 loop-holds c = (
   λ follows h ready durations.
@@ -33,35 +28,27 @@ loop-holds c = (
   λ ne. absurd (ne refl),
 )
 
--- src/aside.rt:106:9
 sub-k : tie.Need-sub-k Inv-loop μ-loop
 sub-k c = omega arith
 
--- src/aside.rt:107:18
 mul-id : tie.Need-mul-id Inv-loop μ-loop
 mul-id c = omega (arith, c .before .before .before .good .0 .1)
 
--- src/aside.rt:107:18
 shared-slice-read-id : tie.Need-shared-slice-read-id Inv-loop μ-loop
 shared-slice-read-id c = omega arith
 
--- src/aside.rt:108:17
 cast-i : tie.Need-cast-i Inv-loop μ-loop
 cast-i c = let k = c .before .before .loop .k in omega (arith, c .before .before .before .before .pre (k - 1) (omega arith))
 
--- src/aside.rt:109:12
 element-copy-out-if1 : tie.Need-element-copy-out-if1 Inv-loop μ-loop
 element-copy-out-if1 c = let k = c .before .before .loop .k in omega (arith, c .before .before .before .before .pre (k - 1) (omega arith))
 
--- src/aside.rt:110:13
 cheaper-requires : tie.Need-cheaper-requires Inv-loop μ-loop
 cheaper-requires c κs = (let k = c .before .before .before .before .loop .k in omega (arith, c .before .before .before .before .before .before .pre (k - 1) (omega arith)), c .before .before .before .before .loop .inv .2)
 
--- src/aside.rt:105:5
 loop-less : tie.Need-loop-less Inv-loop μ-loop
 loop-less c = omega arith
 
--- src/aside.rt:105:5
 loop-again : tie.Need-loop-again Inv-loop μ-loop
 loop-again c = let a = c .before .before .before .before .before .before .before .args in
     let s = c .before .before .before .before .before .loop in
@@ -75,11 +62,9 @@ loop-again c = let a = c .before .before .before .before .before .before .before
       λ ne. c .cheaper .ensures .small,
     )
 
--- src/aside.rt:105:5
 loop-less-2 : tie.Need-loop-less-2 Inv-loop μ-loop
 loop-less-2 c = omega arith
 
--- src/aside.rt:105:5
 loop-again-2 : tie.Need-loop-again-2 Inv-loop μ-loop
 loop-again-2 c = let a = c .before .before .before .before .before .before .args in
     let s = c .before .before .before .before .loop in
@@ -92,7 +77,6 @@ loop-again-2 c = let a = c .before .before .before .before .before .before .args
       s .inv .2,
     )
 
--- src/aside.rt:93:1
 returns : tie.Need-returns Inv-loop μ-loop
 returns c follows h ready durations from work = let a = c .before .before .before .args in
     let e : c .before .loop .k ≡ 0 = omega arith in

@@ -1,17 +1,12 @@
 -- `clear_marks` meets its contract: every place before i is cleared.
-use Prim.Native.Nat.{ℕ, suc, _-_, _≤_, _<_}
-use mathlib.Core.Bool.{Bool}
-use mathlib.Core.List.{List}
-use mathlib.Core.Path.{_≡_, refl, sym, ap, _∙_}
-use borrow.Author.Needs.{needs}
+use Prim.Native.Nat.{ℕ, _-_, _≤_, _<_}
+use mathlib.Core.Path.{_≡_, _∙_}
 use native.Mathlib.Omega.{arith}
 use lib.ListN.{length, getD}
 use lib.ListN.{length-set}
 use Rattle.blocksteps.proofs.Marked.{cleared-more}
 use Rattle.blocksteps.proofs.aside.clear_marks.Statement.{statement}
 use Rattle.blocksteps.proofs.aside.clear_marks.Tie as tie
-use Rattle.blocksteps.proofs.aside.clear_marks.Reads as reads
-use Rattle.blocksteps.proofs.aside.clear_marks.Lts as lts
 
 abbrev Inv-loop : tie.InvT-loop
 Inv-loop marks₀ i₀ marks i =
@@ -20,23 +15,18 @@ Inv-loop marks₀ i₀ marks i =
 abbrev μ-loop : tie.MeasureT-loop
 μ-loop marks₀ i₀ marks i = 256 - i
 
--- src/aside.rt:19:5
 loop-holds : tie.Need-loop-holds Inv-loop μ-loop
 loop-holds c = (c .pre, omega arith, λ j h. absurd (omega arith))
 
--- src/aside.rt:20:9
 element-write-marks : tie.Need-element-write-marks Inv-loop μ-loop
 element-write-marks c = omega arith
 
--- src/aside.rt:21:9
 add-i : tie.Need-add-i Inv-loop μ-loop
 add-i c = omega arith
 
--- src/aside.rt:19:5
 loop-less : tie.Need-loop-less Inv-loop μ-loop
 loop-less c = omega arith
 
--- src/aside.rt:19:5
 loop-again : tie.Need-loop-again Inv-loop μ-loop
 loop-again c = let s = c .before .loop in (
   length-set (s .marks) (s .i) 0 ∙ s .inv .0,
@@ -44,7 +34,6 @@ loop-again c = let s = c .before .loop in (
   cleared-more (s .marks) (s .i) (s .inv .0) (omega arith) (s .inv .2),
 )
 
--- src/aside.rt:14:1
 returns : tie.Need-returns Inv-loop μ-loop
 returns c = record {
   sized = c .before .loop .inv .0;

@@ -3,20 +3,11 @@ use mathlib.Core.Bool.{true, false}
 use lib.Signed.{ltZ, leZ}
 use mir.Syntax.{w32}
 use mir.Val.{toZ, ofZ}
-use Prim.Native.Nat.{ℕ, suc, _-_, _≤_, _<_}
-use mathlib.Core.Bool.{Bool}
-use mathlib.Core.List.{List}
-use mathlib.Core.Path.{_≡_, refl, sym, ap, _∙_}
-use borrow.Author.Needs.{needs}
-use native.Mathlib.Omega.{arith}
-use lib.ListN.{length, getD}
+use mathlib.Core.Path.{_≡_}
 use mir.Facts.{toZ-ofZ}
 use Rattle.blocksteps.proofs.aside.costs_less.Statement.{statement}
 use Rattle.blocksteps.proofs.aside.costs_less.Tie as tie
-use Rattle.blocksteps.proofs.aside.costs_less.Reads as reads
-use Rattle.blocksteps.proofs.aside.costs_less.Lts as lts
 
--- src/aside.rt:69:9
 returns : tie.Need-returns
 returns c = let a = c .before .args in
     let f = c .before .fits in
@@ -24,7 +15,6 @@ returns c = let a = c .before .args in
     let k : ltZ (a .latest-b) (a .latest-a) ≡ true = rw (toZ-ofZ (f .latest-b), toZ-ofZ (f .latest-a)) at h in
     rw k
 
--- src/aside.rt:72:9
 returns-2 : tie.Need-returns-2
 returns-2 c = let a = c .before .before .args in
     let f = c .before .before .fits in
@@ -34,7 +24,6 @@ returns-2 c = let a = c .before .before .args in
     let l : leZ (a .latest-b) (a .latest-a) ≡ true = rw (toZ-ofZ (f .latest-b), toZ-ofZ (f .latest-a)) at g in
     rw (k, l)
 
--- src/aside.rt:65:1
 returns-3 : tie.Need-returns-3
 returns-3 c = let a = c .before .before .args in
     let f = c .before .before .fits in

@@ -3,9 +3,8 @@ use lib.ListN.{length-set}
 use Prim.Native.Nat.{_-_, _≤_}
 use mathlib.Core.List.{List}
 use mathlib.Core.Logic.{⊎-elim}
-use mathlib.Core.Path.{_≡_, refl, sym, ap, _∙_}
+use mathlib.Core.Path.{_≡_, ap, _∙_}
 use Prim.Native.Nat.{ℕ}
-use borrow.Author.Needs.{needs}
 use native.Mathlib.Omega.{arith}
 use lib.ListN.{length}
 use Rattle.blocksteps.specs.Listed.{tiedIn}
@@ -13,8 +12,6 @@ use Rattle.blocksteps.specs.Aside.{Marks, memberMark, ledMark}
 use Rattle.blocksteps.proofs.Marked.{links-none, link-inside, link-from-outside, link-to-outside}
 use Rattle.blocksteps.proofs.aside.mark_led.Statement.{statement}
 use Rattle.blocksteps.proofs.aside.mark_led.Tie as tie
-use Rattle.blocksteps.proofs.aside.mark_led.Reads as reads
-use Rattle.blocksteps.proofs.aside.mark_led.Lts as lts
 
 abbrev Inv-loop : tie.InvT-loop
 Inv-loop m befores afters marks₀ k₀ marks k =
@@ -24,55 +21,42 @@ Inv-loop m befores afters marks₀ k₀ marks k =
 abbrev μ-loop : tie.MeasureT-loop
 μ-loop m befores afters marks₀ k₀ marks k = m - k
 
--- src/aside.rt:52:5
 loop-holds : tie.Need-loop-holds Inv-loop μ-loop
 loop-holds c = (omega arith, c .pre .1, λ ids h. links-none _ _ _ ids h)
 
--- src/aside.rt:53:17
 mul-b : tie.Need-mul-b Inv-loop μ-loop
 mul-b c = omega (arith, c .before .before .pre .0 .few)
 
--- src/aside.rt:53:17
 element-copy-out-b : tie.Need-element-copy-out-b Inv-loop μ-loop
 element-copy-out-b c = omega (arith, c .before .before .pre .0 .few)
 
--- src/aside.rt:53:17
 cast-b : tie.Need-cast-b Inv-loop μ-loop
 cast-b c = omega (arith, c .before .before .before .pre .0 .before-known (c .before .before .loop .k) (omega arith))
 
--- src/aside.rt:54:17
 mul-a : tie.Need-mul-a Inv-loop μ-loop
 mul-a c = omega (arith, c .before .before .before .pre .0 .few)
 
--- src/aside.rt:54:17
 element-copy-out-a : tie.Need-element-copy-out-a Inv-loop μ-loop
 element-copy-out-a c = omega (arith, c .before .before .before .pre .0 .few)
 
--- src/aside.rt:54:17
 cast-a : tie.Need-cast-a Inv-loop μ-loop
 cast-a c = omega (arith, c .before .before .before .before .pre .0 .after-known (c .before .before .before .loop .k) (omega arith))
 
--- src/aside.rt:55:12
 element-copy-out-if1 : tie.Need-element-copy-out-if1 Inv-loop μ-loop
 element-copy-out-if1 c = c .before .before .before .before .pre .0 .before-known (c .before .before .before .loop .k) (omega arith)
 
--- src/aside.rt:56:16
 element-copy-out-if2 : tie.Need-element-copy-out-if2 Inv-loop μ-loop
 element-copy-out-if2 c = c .before .before .before .before .before .before .pre .0 .after-known (c .before .before .before .before .before .loop .k) (omega arith)
 
--- src/aside.rt:57:17
 element-write-marks : tie.Need-element-write-marks Inv-loop μ-loop
 element-write-marks c = c .before .before .before .before .before .before .before .before .pre .0 .before-known (c .before .before .before .before .before .before .before .loop .k) (omega arith)
 
--- src/aside.rt:60:9
 add-k : tie.Need-add-k Inv-loop μ-loop
 add-k c = omega (arith, c .before .before .before .before .before .before .pre .0 .few)
 
--- src/aside.rt:52:5
 loop-less : tie.Need-loop-less Inv-loop μ-loop
 loop-less c = omega arith
 
--- src/aside.rt:52:5
 loop-again : tie.Need-loop-again Inv-loop μ-loop
 loop-again c = let p = c .before .before .before .before .before .before .pre .0 in
     let s = c .before .before .before .before .before .loop in
@@ -97,7 +81,6 @@ loop-again c = let p = c .before .before .before .before .before .before .pre .0
     )))
     (c .if1 .came)
 
--- src/aside.rt:40:1
 returns : tie.Need-returns Inv-loop μ-loop
 returns c ids h = let e : c .before .loop .k ≡ c .before .before .args .m = omega arith in rw (← e) (c .before .loop .inv .2 ids h)
 

@@ -1,6 +1,6 @@
 -- `mark_members` meets its contract: the first k of the list are marked, and no other.
 use Prim.Native.Nat.{_-_, _≤_}
-use mathlib.Core.Path.{_≡_, refl, sym, ap, _∙_}
+use mathlib.Core.Path.{_≡_}
 use borrow.Author.Needs.{needs}
 use native.Mathlib.Omega.{arith}
 use lib.ListN.{length, take}
@@ -9,9 +9,6 @@ use Rattle.blocksteps.specs.Aside.{Marks, memberMark}
 use Rattle.blocksteps.proofs.Marked.{members-none, members-more}
 use Rattle.blocksteps.proofs.aside.mark_members.Statement.{statement}
 use Rattle.blocksteps.proofs.aside.mark_members.Tie as tie
-use Rattle.blocksteps.proofs.aside.mark_members.Reads as reads
-use Rattle.blocksteps.proofs.aside.mark_members.Lts as lts
-use Rattle.blocksteps.proofs.aside.clear_marks.Reads as clear-marks-reads
 
 abbrev Inv-loop : tie.InvT-loop
 Inv-loop ids marks₀ k₀ marks k =
@@ -20,39 +17,30 @@ Inv-loop ids marks₀ k₀ marks k =
 abbrev μ-loop : tie.MeasureT-loop
 μ-loop ids marks₀ k₀ marks k = length ids - k
 
--- src/aside.rt:30:5
 clear-marks-requires : tie.Need-clear-marks-requires Inv-loop μ-loop
 clear-marks-requires c κs = c .before .before .pre .1
 
--- src/aside.rt:32:5
 loop-holds : tie.Need-loop-holds Inv-loop μ-loop
 loop-holds c = (omega arith, members-none _ (c .before .before .before .args .ids .now) (c .clear-marks .ensures))
 
--- src/aside.rt:33:17
 mul-i : tie.Need-mul-i Inv-loop μ-loop
 mul-i c = search needs
 
--- src/aside.rt:33:17
 shared-slice-read-i : tie.Need-shared-slice-read-i Inv-loop μ-loop
 shared-slice-read-i c = omega arith
 
--- src/aside.rt:33:17
 cast-i : tie.Need-cast-i Inv-loop μ-loop
 cast-i c = omega (arith, c .before .before .before .before .before .before .pre .0 (c .before .before .loop .k) (omega arith))
 
--- src/aside.rt:34:9
 element-write-marks : tie.Need-element-write-marks Inv-loop μ-loop
 element-write-marks c = c .before .before .before .before .before .before .pre .0 (c .before .before .loop .k) (omega arith)
 
--- src/aside.rt:35:9
 add-k : tie.Need-add-k Inv-loop μ-loop
 add-k c = omega arith
 
--- src/aside.rt:32:5
 loop-less : tie.Need-loop-less Inv-loop μ-loop
 loop-less c = omega arith
 
--- src/aside.rt:32:5
 loop-again : tie.Need-loop-again Inv-loop μ-loop
 loop-again c = (
   omega arith,
@@ -60,7 +48,6 @@ loop-again c = (
       (c .before .before .before .before .before .before .pre .0 (c .before .before .loop .k) (omega arith)) (c .before .before .loop .inv .1),
 )
 
--- src/aside.rt:25:1
 returns : tie.Need-returns Inv-loop μ-loop
 returns c = let a = c .before .before .before .before .before .args in
     let e : c .before .loop .k ≡ length (a .ids .now) = omega arith in

@@ -1,83 +1,65 @@
 -- `give_slots` meets its contract: four ways, each with what the tables hold after it.
-use Prim.Native.Nat.{_<_}
-use mathlib.Core.Path.{sym, ap, _∙_}
+use mathlib.Core.Path.{sym, _∙_}
 use borrow.Author.Needs.{needs}
 use native.Mathlib.Omega.{arith}
-use Rattle.blocksteps.proofs.Stored.{touching-some, to-nobody, no-slots, longer, behind}
+use Rattle.blocksteps.proofs.Stored.{touching-some, share-one, to-nobody, no-slots, longer, behind}
 use Rattle.blocksteps.proofs.board.give_slots.Statement.{statement}
 use Rattle.blocksteps.proofs.board.give_slots.Tie as tie
-use Rattle.blocksteps.proofs.board.give_slots.Reads as reads
-use Rattle.blocksteps.proofs.board.give_slots.Lts as lts
-use Rattle.blocksteps.proofs.board.touches.Reads as touches-reads
 
--- src/board.rt:49:9
 returns : tie.Need-returns
 returns c = to-nobody _ _ _ _ (c .before .pre .0) _ _ _ (c .if1 .taken)
 
--- src/board.rt:52:9
 returns-2 : tie.Need-returns-2
 returns-2 c = no-slots _ _ _ _ (c .before .before .pre .0) _ _ _ (c .if2 .taken)
 
--- src/board.rt:54:8
 touches-requires : tie.Need-touches-requires
 touches-requires c κs = search needs
 
--- src/board.rt:55:16
 sub-untils : tie.Need-sub-untils
 sub-untils c =
     let a = c .before .before .before .before .before .before .args in
     touching-some (a .piece) (a .from) (a .count) (a .pieces .now) (a .froms .now) (a .untils .now)
     (sym (c .before .touches .ensures (a .froms .now)) ∙ c .if3 .taken)
 
--- src/board.rt:55:9
 mul-untils : tie.Need-mul-untils
 mul-untils c = search needs
 
--- src/board.rt:55:9
 element-write-untils : tie.Need-element-write-untils
 element-write-untils c = search needs
 
--- src/board.rt:56:9
 returns-3 : tie.Need-returns-3
 returns-3 c =
     let s = c .before .before .before .before .before .before in
     longer (s .args .count) _ _ _ (s .pre .0) _ _ _ (c .before .before .before .before .before .if1 .left) (omega arith)
     (sym (c .before .touches .ensures (s .args .froms .now)) ∙ c .if3 .taken) (omega arith)
 
--- src/board.rt:58:5
 mul-pieces : tie.Need-mul-pieces
-mul-pieces c = search needs
+mul-pieces c = omega (arith, share-one (c .before .before .before .before .before .before .args .piece) (c .before .before .before .before .before .if1 .left))
 
--- src/board.rt:58:5
 element-write-pieces : tie.Need-element-write-pieces
-element-write-pieces c = search needs
+element-write-pieces c = omega (arith, share-one (c .before .before .before .before .before .before .args .piece) (c .before .before .before .before .before .if1 .left))
 
--- src/board.rt:59:5
 mul-froms : tie.Need-mul-froms
-mul-froms c = search needs
+mul-froms c = omega (arith, share-one (c .before .before .before .before .before .before .args .piece) (c .before .before .before .before .before .if1 .left))
 
--- src/board.rt:59:5
 element-write-froms : tie.Need-element-write-froms
-element-write-froms c = search needs
+element-write-froms c = omega (arith, share-one (c .before .before .before .before .before .before .args .piece) (c .before .before .before .before .before .if1 .left))
 
--- src/board.rt:60:5
 mul-untils-2 : tie.Need-mul-untils-2
-mul-untils-2 c = search needs
+mul-untils-2 c = omega (arith, share-one (c .before .before .before .before .before .before .args .piece) (c .before .before .before .before .before .if1 .left))
 
--- src/board.rt:60:5
 element-write-untils-2 : tie.Need-element-write-untils-2
-element-write-untils-2 c = search needs
+element-write-untils-2 c = omega (arith, share-one (c .before .before .before .before .before .before .args .piece) (c .before .before .before .before .before .if1 .left))
 
--- src/board.rt:61:5
 add-result : tie.Need-add-result
-add-result c = search needs
+add-result c = omega (arith, share-one (c .before .before .before .before .before .before .args .piece) (c .before .before .before .before .before .if1 .left))
 
--- src/board.rt:29:1
 returns-4 : tie.Need-returns-4
 returns-4 c =
     let s = c .before .before .before .before .before .before in
     behind (s .args .count) _ _ _ (s .pre .0) _ _ _ (c .before .before .before .before .before .if1 .left) (omega arith)
-    (sym (c .before .touches .ensures (s .args .froms .now)) ∙ c .if3 .left) (omega arith)
+    (sym (c .before .touches .ensures (s .args .froms .now)) ∙ c .if3 .left)
+    (omega (arith, share-one (s .args .piece) (c .before .before .before .before .before .if1 .left)))
 
 pub give-slots-spec : {M : Type 1} → statement M
 give-slots-spec =

@@ -1,6 +1,5 @@
 -- `touches` meets its contract: it looks at the last stretch of the board, if there is one.
-use Prim.Native.Nat.{_<_}
-use mathlib.Core.Path.{sym, ap, _∙_}
+use mathlib.Core.Path.{sym, _∙_}
 use borrow.Author.Needs.{needs}
 use borrow.Author.Tests.{eq-eqb, ne-eqb}
 use native.Mathlib.Omega.{arith}
@@ -8,46 +7,35 @@ use Rattle.method.specs.Board.{boardIn, touching}
 use Rattle.blocksteps.proofs.Stored.{touching-last}
 use Rattle.blocksteps.proofs.board.touches.Statement.{statement}
 use Rattle.blocksteps.proofs.board.touches.Tie as tie
-use Rattle.blocksteps.proofs.board.touches.Reads as reads
-use Rattle.blocksteps.proofs.board.touches.Lts as lts
 
--- src/board.rt:20:9
 returns : tie.Need-returns
 unfolding boardIn touching
 returns c froms = rw (c .if1 .taken)
 
--- src/board.rt:22:15
 sub-if2 : tie.Need-sub-if2
 sub-if2 c = search needs
 
--- src/board.rt:22:8
 mul-if2 : tie.Need-mul-if2
 mul-if2 c = search needs
 
--- src/board.rt:22:8
 element-copy-out-if2 : tie.Need-element-copy-out-if2
 element-copy-out-if2 c = search needs
 
--- src/board.rt:23:9
 returns-2 : tie.Need-returns-2
 returns-2 c froms =
     let a = c .before .before .before .args in
     sym (touching-last (a .piece) (a .from) (a .count) (a .pieces .now) froms (a .untils .now) (omega arith)
     ∙ rw (ne-eqb _ _ (c .if2 .taken)))
 
--- src/board.rt:25:12
 sub-result : tie.Need-sub-result
 sub-result c = search needs
 
--- src/board.rt:25:5
 mul-result : tie.Need-mul-result
 mul-result c = search needs
 
--- src/board.rt:25:5
 element-copy-out-result : tie.Need-element-copy-out-result
 element-copy-out-result c = search needs
 
--- src/board.rt:12:1
 returns-3 : tie.Need-returns-3
 returns-3 c froms =
     let a = c .before .before .before .before .args in

@@ -1,7 +1,7 @@
 -- `gather_block` meets its contract: what is left to gather gives the blocks of the whole set, and no sum wraps.
 use Prim.Native.Nat.{_-_, _*_, _≤_}
 use mathlib.Core.List.{List}
-use mathlib.Core.Path.{_≡_, refl, sym, ap, _∙_}
+use mathlib.Core.Path.{_≡_}
 use borrow.Author.Needs.{needs}
 use native.Mathlib.Omega.{arith}
 use lib.IntN.{ℤ}
@@ -11,10 +11,6 @@ use Rattle.blocksteps.specs.Listed.{entryIn}
 use Rattle.blocksteps.proofs.Gathering.{Gathering, gathering-one, gathering-more, gathering-stop, gathering-end}
 use Rattle.blocksteps.proofs.gather.gather_block.Statement.{statement}
 use Rattle.blocksteps.proofs.gather.gather_block.Tie as tie
-use Rattle.blocksteps.proofs.gather.gather_block.Reads as reads
-use Rattle.blocksteps.proofs.gather.gather_block.Lts as lts
-use Rattle.blocksteps.proofs.gather.open_end.Reads as open-end-reads
-use Rattle.blocksteps.proofs.gather.wide.Reads as wide-reads
 
 abbrev Inv-loop : tie.InvT-loop
 Inv-loop ids ready durations first from work₀ end₀ k₀ work end k =
@@ -24,39 +20,30 @@ Inv-loop ids ready durations first from work₀ end₀ k₀ work end k =
 abbrev μ-loop : tie.MeasureT-loop
 μ-loop ids ready durations first from work₀ end₀ k₀ work end k = length ids - k
 
--- src/gather.rt:42:17
 shared-slice-read-first : tie.Need-shared-slice-read-first Inv-loop μ-loop
 shared-slice-read-first c = omega arith
 
--- src/gather.rt:42:17
 cast-first : tie.Need-cast-first Inv-loop μ-loop
 cast-first c = omega (arith, c .before .before .pre .0 .known 0 (omega arith))
 
--- src/gather.rt:43:16
 mul-from : tie.Need-mul-from Inv-loop μ-loop
 mul-from c = omega (arith, c .before .before .pre .0 .known 0 (omega arith))
 
--- src/gather.rt:43:16
 element-copy-out-from : tie.Need-element-copy-out-from Inv-loop μ-loop
 element-copy-out-from c = omega (arith, c .before .before .pre .0 .known 0 (omega arith))
 
--- src/gather.rt:44:25
 mul-wide : tie.Need-mul-wide Inv-loop μ-loop
 mul-wide c = omega (arith, c .before .before .before .pre .0 .known 0 (omega arith))
 
--- src/gather.rt:44:25
 element-copy-out-wide : tie.Need-element-copy-out-wide Inv-loop μ-loop
 element-copy-out-wide c = omega (arith, c .before .before .before .pre .0 .known 0 (omega arith))
 
--- src/gather.rt:44:9
 wide-requires : tie.Need-wide-requires Inv-loop μ-loop
 wide-requires c κs = search needs
 
--- src/gather.rt:45:9
 open-end-requires : tie.Need-open-end-requires Inv-loop μ-loop
 open-end-requires c κs = omega (arith, c .before .before .before .before .before .pre .0 .early 0 (omega arith))
 
--- src/gather.rt:47:5
 loop-holds : tie.Need-loop-holds Inv-loop μ-loop
 unfolding entryIn
 loop-holds c = (
@@ -66,60 +53,46 @@ loop-holds c = (
   omega arith,
 )
 
--- src/gather.rt:48:17
 mul-i : tie.Need-mul-i Inv-loop μ-loop
 mul-i c = search needs
 
--- src/gather.rt:48:17
 shared-slice-read-i : tie.Need-shared-slice-read-i Inv-loop μ-loop
 shared-slice-read-i c = omega arith
 
--- src/gather.rt:48:17
 cast-i : tie.Need-cast-i Inv-loop μ-loop
 cast-i c = omega (arith, c .before .before .before .before .before .before .before .before .before .pre .0 .known (c .before .before .loop .k) (omega arith))
 
--- src/gather.rt:49:19
 mul-if1 : tie.Need-mul-if1 Inv-loop μ-loop
 mul-if1 c = omega (arith, c .before .before .before .before .before .before .before .before .before .pre .0 .known (c .before .before .loop .k) (omega arith))
 
--- src/gather.rt:49:19
 element-copy-out-if1 : tie.Need-element-copy-out-if1 Inv-loop μ-loop
 element-copy-out-if1 c = omega (arith, c .before .before .before .before .before .before .before .before .before .pre .0 .known (c .before .before .loop .k) (omega arith))
 
--- src/gather.rt:50:13
 returns : tie.Need-returns Inv-loop μ-loop
 unfolding entryIn
 returns c latests = gathering-stop _ _ _ _ (c .before .before .before .before .loop .inv .0 latests) _ (c .before .before .before .before .loop .inv .2) (omega arith) (omega arith)
 
--- src/gather.rt:52:22
 mul-wide-2 : tie.Need-mul-wide-2 Inv-loop μ-loop
 mul-wide-2 c = omega (arith, c .before .before .before .before .before .before .before .before .before .before .before .pre .0 .known (c .before .before .before .before .loop .k) (omega arith))
 
--- src/gather.rt:52:22
 element-copy-out-wide-2 : tie.Need-element-copy-out-wide-2 Inv-loop μ-loop
 element-copy-out-wide-2 c = omega (arith, c .before .before .before .before .before .before .before .before .before .before .before .pre .0 .known (c .before .before .before .before .loop .k) (omega arith))
 
--- src/gather.rt:52:17
 wide-requires-2 : tie.Need-wide-requires-2 Inv-loop μ-loop
 wide-requires-2 c κs = search needs
 
--- src/gather.rt:52:9
 add-work : tie.Need-add-work Inv-loop μ-loop
 add-work c = omega (arith, c .before .before .before .before .before .before .before .before .before .before .before .before .before .pre .0 .few)
 
--- src/gather.rt:53:9
 open-end-requires-2 : tie.Need-open-end-requires-2 Inv-loop μ-loop
 open-end-requires-2 c κs = omega (arith, c .before .before .before .before .before .before .before .before .before .before .before .before .before .pre .0 .few, c .before .before .before .before .before .before .before .before .before .before .before .before .before .pre .0 .early 0 (omega arith))
 
--- src/gather.rt:54:9
 add-k : tie.Need-add-k Inv-loop μ-loop
 add-k c = omega arith
 
--- src/gather.rt:47:5
 loop-less : tie.Need-loop-less Inv-loop μ-loop
 loop-less c = omega arith
 
--- src/gather.rt:47:5
 loop-again : tie.Need-loop-again Inv-loop μ-loop
 unfolding entryIn
 loop-again c = (
@@ -129,7 +102,6 @@ loop-again c = (
   omega (arith, c .before .wide2 .ensures .small),
 )
 
--- src/gather.rt:31:1
 returns-2 : tie.Need-returns-2 Inv-loop μ-loop
 unfolding entryIn
 returns-2 c latests = gathering-end _ _ _ _ (c .before .loop .inv .0 latests) _ (c .before .loop .inv .2) (omega arith)

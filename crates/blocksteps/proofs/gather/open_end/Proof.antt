@@ -3,14 +3,10 @@ use borrow.Author.Needs.{needs}
 use Rattle.method.specs.Hours.{deskEnd}
 use Rattle.blocksteps.proofs.gather.open_end.Statement.{statement}
 use Rattle.blocksteps.proofs.gather.open_end.Tie as tie
-use Rattle.blocksteps.proofs.gather.open_end.Reads as reads
-use Rattle.blocksteps.proofs.gather.open_end.Lts as lts
 
--- src/gather.rt:22:5
 add-result : tie.Need-add-result
 add-result c = search needs
 
--- src/gather.rt:18:1
 returns : tie.Need-returns
 unfolding deskEnd
 returns c = refl

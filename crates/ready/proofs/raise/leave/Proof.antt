@@ -1,5 +1,5 @@
 -- `leave` meets its contract, on one desk and on two.
-use mathlib.Core.Path.{_≡_, refl, sym, ap, _∙_}
+use mathlib.Core.Path.{ap, _∙_}
 use Prim.Native.Nat.{ℕ, _+_}
 use Rattle.rules.specs.Words.{when}
 use Rattle.method.specs.Hours.{deskEnd}
@@ -7,33 +7,23 @@ use Rattle.ready.specs.Planned.{leaves}
 use borrow.Author.Needs.{needs}
 use Rattle.ready.proofs.raise.leave.Statement.{statement}
 use Rattle.ready.proofs.raise.leave.Tie as tie
-use Rattle.ready.proofs.raise.leave.Reads as reads
-use Rattle.ready.proofs.raise.leave.Lts as lts
-use Rattle.blocksteps.proofs.gather.open_end.Reads as open-end-reads
-use Rattle.blocksteps.proofs.gather.wide.Reads as wide-reads
 
--- src/raise.rt:31:33
 wide-requires : tie.Need-wide-requires
 wide-requires c κs = search needs
 
--- src/raise.rt:31:9
 open-end-requires : tie.Need-open-end-requires
 open-end-requires c κs = search needs
 
--- src/raise.rt:31:9
 returns : tie.Need-returns
 unfolding leaves
 returns c = rw (c .before .before .if1 .taken, when) (c .open-end .ensures ∙ ap (deskEnd (c .before .before .before .args .moment)) (c .before .wide .ensures .same))
 
--- src/raise.rt:33:14
 wide-requires-2 : tie.Need-wide-requires-2
 wide-requires-2 c κs = search needs
 
--- src/raise.rt:33:5
 add-result : tie.Need-add-result
 add-result c = search needs
 
--- src/raise.rt:25:1
 returns-2 : tie.Need-returns-2
 unfolding leaves
 returns-2 c = rw (c .before .if1 .left, when) (ap (λ (x : ℕ). c .before .before .args .ending + x) (c .wide2 .ensures .same))

@@ -1,19 +1,14 @@
 -- `raise_once` meets its contract: of the first k links each is granted.
-use Prim.Native.Nat.{ℕ, _-_, _≤_, _<_}
+use Prim.Native.Nat.{_-_, _≤_}
 use mathlib.Core.Logic.{⊎-elim}
-use mathlib.Core.Path.{_≡_, refl, sym, ap, _∙_}
-use borrow.Author.Needs.{needs}
+use mathlib.Core.Path.{_∙_}
 use native.Mathlib.Omega.{arith}
-use lib.ListN.{length, getD}
 use Rattle.rules.specs.Job.{Job}
 use Rattle.rules.specs.Tables.{linkIn}
 use Rattle.ready.specs.Planned.{Tabled, Below}
 use Rattle.ready.proofs.Raising.{known-of, early, Rising, rising-none, code-asks, rising-keep, rising-more, rising-end}
 use Rattle.ready.proofs.raise.raise_once.Statement.{statement}
 use Rattle.ready.proofs.raise.raise_once.Tie as tie
-use Rattle.ready.proofs.raise.raise_once.Reads as reads
-use Rattle.ready.proofs.raise.raise_once.Lts as lts
-use Rattle.ready.proofs.raise.leave.Reads as leave-reads
 
 abbrev Inv-loop : tie.InvT-loop
 Inv-loop m desks durations befores afters handovers finish table₀ changed₀ k₀ table changed k =
@@ -24,120 +19,95 @@ Inv-loop m desks durations befores afters handovers finish table₀ changed₀ k
 abbrev μ-loop : tie.MeasureT-loop
 μ-loop m desks durations befores afters handovers finish table₀ changed₀ k₀ table changed k = m - k
 
--- src/raise.rt:64:5
 loop-holds : tie.Need-loop-holds Inv-loop μ-loop
 loop-holds c = (omega arith, λ J p h. rising-none J _ _ _ _ _ _ _ p _ h)
 
--- src/raise.rt:65:17
 mul-b : tie.Need-mul-b Inv-loop μ-loop
 mul-b c = omega (arith, c .before .before .pre .1 .few)
 
--- src/raise.rt:65:17
 element-copy-out-b : tie.Need-element-copy-out-b Inv-loop μ-loop
 element-copy-out-b c = omega (arith, c .before .before .pre .1 .few)
 
--- src/raise.rt:65:17
 cast-b : tie.Need-cast-b Inv-loop μ-loop
 cast-b c = let w = c .before .before .before .pre in
     omega (arith, known-of (w .0) _ _ _ _ _ _ _ (w .1) (c .before .before .loop .k) (omega arith))
 
--- src/raise.rt:66:17
 mul-a : tie.Need-mul-a Inv-loop μ-loop
 mul-a c = omega (arith, c .before .before .before .pre .1 .few)
 
--- src/raise.rt:66:17
 element-copy-out-a : tie.Need-element-copy-out-a Inv-loop μ-loop
 element-copy-out-a c = omega (arith, c .before .before .before .pre .1 .few)
 
--- src/raise.rt:66:17
 cast-a : tie.Need-cast-a Inv-loop μ-loop
 cast-a c = let w = c .before .before .before .before .pre in
     omega (arith, known-of (w .0) _ _ _ _ _ _ _ (w .1) (c .before .before .before .loop .k) (omega arith))
 
--- src/raise.rt:67:19
 element-copy-out-own : tie.Need-element-copy-out-own Inv-loop μ-loop
 element-copy-out-own c = let w = c .before .before .before .before .pre in
     omega (arith, known-of (w .0) _ _ _ _ _ _ _ (w .1) (c .before .before .before .loop .k) (omega arith))
 
--- src/raise.rt:67:31
 element-copy-out-own-2 : tie.Need-element-copy-out-own-2 Inv-loop μ-loop
 element-copy-out-own-2 c = let w = c .before .before .before .before .before .pre in
     omega (arith, known-of (w .0) _ _ _ _ _ _ _ (w .1) (c .before .before .before .before .loop .k) (omega arith))
 
--- src/raise.rt:68:28
 mul-leave : tie.Need-mul-leave Inv-loop μ-loop
 mul-leave c = let w = c .before .before .before .before .before .before .pre in
     omega (arith, known-of (w .0) _ _ _ _ _ _ _ (w .1) (c .before .before .before .before .before .loop .k) (omega arith))
 
--- src/raise.rt:68:28
 element-copy-out-leave : tie.Need-element-copy-out-leave Inv-loop μ-loop
 element-copy-out-leave c = let w = c .before .before .before .before .before .before .pre in
     omega (arith, known-of (w .0) _ _ _ _ _ _ _ (w .1) (c .before .before .before .before .before .loop .k) (omega arith))
 
--- src/raise.rt:68:38
 mul-leave-2 : tie.Need-mul-leave-2 Inv-loop μ-loop
 mul-leave-2 c = let w = c .before .before .before .before .before .before .before .pre in
     omega (arith, known-of (w .0) _ _ _ _ _ _ _ (w .1) (c .before .before .before .before .before .before .loop .k) (omega arith))
 
--- src/raise.rt:68:38
 element-copy-out-leave-2 : tie.Need-element-copy-out-leave-2 Inv-loop μ-loop
 element-copy-out-leave-2 c = let w = c .before .before .before .before .before .before .before .pre in
     omega (arith, known-of (w .0) _ _ _ _ _ _ _ (w .1) (c .before .before .before .before .before .before .loop .k) (omega arith))
 
--- src/raise.rt:68:52
 mul-leave-3 : tie.Need-mul-leave-3 Inv-loop μ-loop
 mul-leave-3 c = let w = c .before .before .before .before .before .before .before .before .pre in
     omega (arith, known-of (w .0) _ _ _ _ _ _ _ (w .1) (c .before .before .before .before .before .before .before .loop .k) (omega arith))
 
--- src/raise.rt:68:52
 element-copy-out-leave-3 : tie.Need-element-copy-out-leave-3 Inv-loop μ-loop
 element-copy-out-leave-3 c = let w = c .before .before .before .before .before .before .before .before .pre in
     omega (arith, known-of (w .0) _ _ _ _ _ _ _ (w .1) (c .before .before .before .before .before .before .before .loop .k) (omega arith))
 
--- src/raise.rt:68:63
 mul-leave-4 : tie.Need-mul-leave-4 Inv-loop μ-loop
 mul-leave-4 c = omega (arith, c .before .before .before .before .before .before .before .before .before .pre .1 .few)
 
--- src/raise.rt:68:63
 element-copy-out-leave-4 : tie.Need-element-copy-out-leave-4 Inv-loop μ-loop
 element-copy-out-leave-4 c = omega (arith, c .before .before .before .before .before .before .before .before .before .pre .1 .few)
 
--- src/raise.rt:68:13
 leave-requires : tie.Need-leave-requires Inv-loop μ-loop
 leave-requires c κs = let w = c .before .before .before .before .before .before .before .before .before .before .pre in
     let s = c .before .before .before .before .before .before .before .before .before .loop in
     let e = early (w .0) _ _ _ _ _ _ _ (w .1) (s .table) (s .k) (omega arith) (s .inv .1 (w .0) (w .1) (w .2) .low) in
     (e .0, e .1)
 
--- src/raise.rt:69:12
 mul-if1 : tie.Need-mul-if1 Inv-loop μ-loop
 mul-if1 c = let w = c .before .before .before .before .before .before .before .before .before .before .before .pre in
     omega (arith, known-of (w .0) _ _ _ _ _ _ _ (w .1) (c .before .before .before .before .before .before .before .before .before .before .loop .k) (omega arith))
 
--- src/raise.rt:69:12
 element-copy-out-if1 : tie.Need-element-copy-out-if1 Inv-loop μ-loop
 element-copy-out-if1 c = let w = c .before .before .before .before .before .before .before .before .before .before .before .pre in
     omega (arith, known-of (w .0) _ _ _ _ _ _ _ (w .1) (c .before .before .before .before .before .before .before .before .before .before .loop .k) (omega arith))
 
--- src/raise.rt:70:13
 mul-table : tie.Need-mul-table Inv-loop μ-loop
 mul-table c = let w = c .before .before .before .before .before .before .before .before .before .before .before .before .before .pre in
     omega (arith, known-of (w .0) _ _ _ _ _ _ _ (w .1) (c .before .before .before .before .before .before .before .before .before .before .before .before .loop .k) (omega arith))
 
--- src/raise.rt:70:13
 element-write-table : tie.Need-element-write-table Inv-loop μ-loop
 element-write-table c = let w = c .before .before .before .before .before .before .before .before .before .before .before .before .before .pre in
     omega (arith, known-of (w .0) _ _ _ _ _ _ _ (w .1) (c .before .before .before .before .before .before .before .before .before .before .before .before .loop .k) (omega arith))
 
--- src/raise.rt:73:9
 add-k : tie.Need-add-k Inv-loop μ-loop
 add-k c = omega (arith, c .before .before .before .before .before .before .before .before .before .before .before .before .before .pre .1 .few)
 
--- src/raise.rt:64:5
 loop-less : tie.Need-loop-less Inv-loop μ-loop
 loop-less c = omega arith
 
--- src/raise.rt:64:5
 loop-again : tie.Need-loop-again Inv-loop μ-loop
 unfolding linkIn
 loop-again c = let s = c .before .before .before .before .before .before .before .before .before .before .before .before .loop in
@@ -160,7 +130,6 @@ loop-again c = let s = c .before .before .before .before .before .before .before
     ))
     (c .if1 .came)
 
--- src/raise.rt:37:1
 returns : tie.Need-returns Inv-loop μ-loop
 returns c J p h = rising-end J _ _ _ _ _ _ _ p _ _ _ _ (c .before .loop .inv .1 J p h) (omega arith)
 

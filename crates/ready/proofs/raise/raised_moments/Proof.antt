@@ -1,7 +1,5 @@
 -- `raised_moments` meets its contract: after so many rounds each piece that fewer lead to has its raised ready moment.
-use Prim.Native.Nat.{ℕ, _+_, _-_, _≤_}
-use mathlib.Core.Bool.{false}
-use mathlib.Core.Path.{_≡_, refl, sym, ap, _∙_}
+use Prim.Native.Nat.{_+_, _-_, _≤_}
 use borrow.Author.Tests.{not-true}
 use native.Mathlib.Omega.{arith}
 use Rattle.rules.specs.Job.{Job}
@@ -10,10 +8,6 @@ use Rattle.ready.proofs.FromTables.{job-count, job-release, pieces-few}
 use Rattle.ready.proofs.Raising.{planned-tabled, Settled, settled-none, settled-more, settled-same, settled-end}
 use Rattle.ready.proofs.raise.raised_moments.Statement.{statement}
 use Rattle.ready.proofs.raise.raised_moments.Tie as tie
-use Rattle.ready.proofs.raise.raised_moments.Reads as reads
-use Rattle.ready.proofs.raise.raised_moments.Lts as lts
-use Rattle.ready.proofs.raise.raise_once.Reads as raise-once-reads
-use Rattle.ready.proofs.raise.take_releases.Reads as take-releases-reads
 
 abbrev Inv-loop : tie.InvT-loop
 Inv-loop n m desks durations releases befores afters handovers finish table₀ round₀ table round =
@@ -24,11 +18,9 @@ Inv-loop n m desks durations releases befores afters handovers finish table₀ r
 abbrev μ-loop : tie.MeasureT-loop
 μ-loop n m desks durations releases befores afters handovers finish table₀ round₀ table round = n + 1 - round
 
--- src/raise.rt:107:5
 take-releases-requires : tie.Need-take-releases-requires Inv-loop μ-loop
 take-releases-requires c κs = let w = c .before .pre .0 in (pieces-few (w .0) _ _ _ _ _ _ _ _ _ (w .1), c .before .pre .1)
 
--- src/raise.rt:109:5
 loop-holds : tie.Need-loop-holds Inv-loop μ-loop
 loop-holds c = (
   omega arith,
@@ -37,26 +29,21 @@ loop-holds c = (
       (c .take-releases .ensures),
 )
 
--- src/raise.rt:110:13
 raise-once-requires : tie.Need-raise-once-requires Inv-loop μ-loop
 raise-once-requires c κs = let w = c .before .before .before .before .before .pre .0 in
     (w .0, planned-tabled (w .0) _ _ _ _ _ _ _ _ _ (w .1), c .before .before .loop .inv .1 (w .0) (w .1) .low)
 
--- src/raise.rt:111:13
 returns : tie.Need-returns Inv-loop μ-loop
 returns c J p = let g = c .before .before .before .before .loop .inv .1 J p in
     settled-same J (p .sound) (p .free) _ _ _ (c .before .before .before .before .loop .round) g
     (c .before .raise-once .ensures J (planned-tabled J _ _ _ _ _ _ _ _ _ p) (g .low)) (not-true _ (c .if1 .taken))
 
--- src/raise.rt:113:9
 add-round : tie.Need-add-round Inv-loop μ-loop
 add-round c = let w = c .before .before .before .before .before .before .before .pre .0 in omega (arith, pieces-few (w .0) _ _ _ _ _ _ _ _ _ (w .1))
 
--- src/raise.rt:109:5
 loop-less : tie.Need-loop-less Inv-loop μ-loop
 loop-less c = omega arith
 
--- src/raise.rt:109:5
 loop-again : tie.Need-loop-again Inv-loop μ-loop
 loop-again c = (
   omega arith,
@@ -66,7 +53,6 @@ loop-again c = (
       (c .before .raise-once .ensures J (planned-tabled J _ _ _ _ _ _ _ _ _ p) (g .low)),
 )
 
--- src/raise.rt:79:1
 returns-2 : tie.Need-returns-2 Inv-loop μ-loop
 returns-2 c J p = settled-end J (p .sound) (p .free) _ _ (c .before .loop .inv .1 J p)
     (omega (arith, job-count J _ _ _ _ _ _ _ _ _ p))

@@ -1,17 +1,13 @@
 -- `take_releases` meets its contract: the first i places hold the releases.
 use Prim.Native.Nat.{ℕ, _-_, _≤_, _<_}
-use mathlib.Core.Logic.{⊎-elim}
-use mathlib.Core.Path.{_≡_, refl, sym, ap, _∙_}
-use borrow.Author.Needs.{needs}
+use mathlib.Core.Path.{_≡_, _∙_}
 use native.Mathlib.Omega.{arith}
 use lib.ListN.{length, getD}
-use lib.ListN.{set, length-set}
+use lib.ListN.{length-set}
 use lib.Seq.{getD-set-same, getD-set-other}
 use Rattle.theory.proofs.Cases.{by-eq}
 use Rattle.ready.proofs.raise.take_releases.Statement.{statement}
 use Rattle.ready.proofs.raise.take_releases.Tie as tie
-use Rattle.ready.proofs.raise.take_releases.Reads as reads
-use Rattle.ready.proofs.raise.take_releases.Lts as lts
 
 abbrev Inv-loop : tie.InvT-loop
 Inv-loop n releases table₀ i₀ table i =
@@ -20,35 +16,27 @@ Inv-loop n releases table₀ i₀ table i =
 abbrev μ-loop : tie.MeasureT-loop
 μ-loop n releases table₀ i₀ table i = n - i
 
--- src/raise.rt:18:5
 loop-holds : tie.Need-loop-holds Inv-loop μ-loop
 loop-holds c = (c .pre .1, omega arith, λ j h. absurd (omega arith))
 
--- src/raise.rt:19:20
 mul-table : tie.Need-mul-table Inv-loop μ-loop
 mul-table c = omega arith
 
--- src/raise.rt:19:20
 element-copy-out-table : tie.Need-element-copy-out-table Inv-loop μ-loop
 element-copy-out-table c = omega arith
 
--- src/raise.rt:19:9
 mul-table-2 : tie.Need-mul-table-2 Inv-loop μ-loop
 mul-table-2 c = omega arith
 
--- src/raise.rt:19:9
 element-write-table : tie.Need-element-write-table Inv-loop μ-loop
 element-write-table c = omega arith
 
--- src/raise.rt:20:9
 add-i : tie.Need-add-i Inv-loop μ-loop
 add-i c = omega arith
 
--- src/raise.rt:18:5
 loop-less : tie.Need-loop-less Inv-loop μ-loop
 loop-less c = omega arith
 
--- src/raise.rt:18:5
 loop-again : tie.Need-loop-again Inv-loop μ-loop
 loop-again c = let a = c .before .before .before .args in
     let s = c .before .before .loop in
@@ -61,7 +49,6 @@ loop-again c = let a = c .before .before .before .args in
           (λ e. getD-set-other (s .table) (s .i) j v 0 e ∙ s .inv .2 j (omega arith)),
     )
 
--- src/raise.rt:12:1
 returns : tie.Need-returns Inv-loop μ-loop
 returns c = record { sized = c .before .loop .inv .0; each = λ j h. c .before .loop .inv .2 j (omega arith) }
 

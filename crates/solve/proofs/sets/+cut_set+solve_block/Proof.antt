@@ -1,25 +1,21 @@
 -- Cutting a set and solving a block meet their contracts together: the count of pieces falls. What is left to cut from here
 -- gives the board of the whole set.
 use lib.Seq.{length-take-le, length-front}
+use Rattle.blocksteps.proofs.Stored.{share-most}
 use Rattle.solve.proofs.Cutting.{listed-keep, solved-by-cut}
 use lib.Seq.{drop-length}
 use borrow.Rule.Slice.PartMut.{same-len-mid, drop-put}
 use Rattle.solve.proofs.Cutting.{rest-length, part-length, part-same, past-part, next-block}
-use Rattle.solve.proofs.Cutting.{same-at, same-rest, same-part, first-of, listed-rest}
-use lib.ListN.{length-take, length-drop}
-use Prim.Native.Nat.{suc, _+_, _-_, _*_, _≤_}
-use mathlib.Core.Bool.{not}
-use mathlib.Core.List.{List, map}
-use mathlib.Core.Path.{_≡_, refl, sym, ap, _∙_}
+use Rattle.solve.proofs.Cutting.{same-at, same-rest, listed-rest}
+use lib.ListN.{length-drop}
+use Prim.Native.Nat.{_+_, _-_, _*_, _≤_}
+use mathlib.Core.Path.{_≡_, refl, sym, _∙_}
 use borrow.Author.Needs.{needs}
 use native.Mathlib.Omega.{arith}
-use lib.Dec.{eqb}
 use lib.ListN.{length, getD, take, drop}
-use Rattle.rules.specs.Words.{keep}
-use Rattle.method.specs.Hours.{deskEnd}
 use Rattle.blocksteps.specs.Listed.{entryIn, tiedIn, Extends}
 use Rattle.method.specs.Board.{boardIn, whom, Tables}
-use Rattle.solve.proofs.Cutting.{onward, one-block, no-block, listed-part, solved-nobody, fewer, solved-others}
+use Rattle.solve.proofs.Cutting.{onward, no-block, listed-part, solved-nobody, fewer}
 use Prim.Native.Nat.{ℕ, _<_}
 use borrow.Fn.Kinds.{In}
 use borrow.Fn.PlainCycle.{Measures, is, falls, and}
@@ -110,56 +106,45 @@ inside t c =
     let s = c .before .before .before .before .before .before .loop in
     omega (arith, extent t c .within, rest-length (a .ids .now) (s .at), s .inv .0)
 
--- src/sets.rt:59:5
 cut-set-loop-holds : (t : ℕ) → cut-set-lts.Need-loop-holds (cut-set-calls t) (cut-set-at t) cut-set.Post cut-set-Inv-loop cut-set-μ-loop
 cut-set-loop-holds t c = (omega arith, refl, refl, c .before .pre .1 .marks-sized, c .before .pre .1 .tables, omega arith, λ f h. refl)
 
--- src/sets.rt:60:21
 cut-set-mul-first : (t : ℕ) → cut-set-lts.Need-mul-first (cut-set-calls t) (cut-set-at t) cut-set.Post cut-set-Inv-loop cut-set-μ-loop
 cut-set-mul-first t c = omega (arith, c .before .before .before .pre .1 .listed .few)
 
--- src/sets.rt:60:21
 cut-set-slice-read-first : (t : ℕ) → cut-set-lts.Need-slice-read-first (cut-set-calls t) (cut-set-at t) cut-set.Post cut-set-Inv-loop cut-set-μ-loop
 cut-set-slice-read-first t c = omega arith
 
--- src/sets.rt:60:21
 cut-set-cast-first : (t : ℕ) → cut-set-lts.Need-cast-first (cut-set-calls t) (cut-set-at t) cut-set.Post cut-set-Inv-loop cut-set-μ-loop
 cut-set-cast-first t c = let s = c .before .before .loop in
     let a = c .before .before .before .before .args in
     let e : getD (s .ids) (s .at) 0 ≡ getD (a .ids .now) (s .at) 0 = same-at (s .ids) (a .ids .now) (s .at) (s .inv .2) in
     omega (arith, c .before .before .before .before .pre .1 .listed .known (s .at) (omega arith))
 
--- src/sets.rt:61:21
 cut-set-mul-start : (t : ℕ) → cut-set-lts.Need-mul-start (cut-set-calls t) (cut-set-at t) cut-set.Post cut-set-Inv-loop cut-set-μ-loop
 cut-set-mul-start t c = let s = c .before .before .loop in
     let a = c .before .before .before .before .args in
     let e : getD (s .ids) (s .at) 0 ≡ getD (a .ids .now) (s .at) 0 = same-at (s .ids) (a .ids .now) (s .at) (s .inv .2) in
     omega (arith, c .before .before .before .before .pre .1 .listed .known (s .at) (omega arith))
 
--- src/sets.rt:61:21
 cut-set-element-copy-out-start : (t : ℕ) → cut-set-lts.Need-element-copy-out-start (cut-set-calls t) (cut-set-at t) cut-set.Post cut-set-Inv-loop cut-set-μ-loop
 cut-set-element-copy-out-start t c = let s = c .before .before .loop in
     let a = c .before .before .before .before .args in
     let e : getD (s .ids) (s .at) 0 ≡ getD (a .ids .now) (s .at) 0 = same-at (s .ids) (a .ids .now) (s .at) (s .inv .2) in
     omega (arith, c .before .before .before .before .pre .1 .listed .known (s .at) (omega arith))
 
--- src/sets.rt:62:34
 cut-set-mul-gather-block : (t : ℕ) → cut-set-lts.Need-mul-gather-block (cut-set-calls t) (cut-set-at t) cut-set.Post cut-set-Inv-loop cut-set-μ-loop
 cut-set-mul-gather-block t c = omega (arith, c .before .before .before .before .before .pre .1 .listed .few)
 
--- src/sets.rt:62:34
 cut-set-sub-gather-block : (t : ℕ) → cut-set-lts.Need-sub-gather-block (cut-set-calls t) (cut-set-at t) cut-set.Post cut-set-Inv-loop cut-set-μ-loop
 cut-set-sub-gather-block t c = omega arith
 
--- src/sets.rt:62:34
 cut-set-part-gather-block-start : (t : ℕ) → cut-set-lts.Need-part-gather-block-start (cut-set-calls t) (cut-set-at t) cut-set.Post cut-set-Inv-loop cut-set-μ-loop
 cut-set-part-gather-block-start t c = omega arith
 
--- src/sets.rt:62:34
 cut-set-part-gather-block-end : (t : ℕ) → cut-set-lts.Need-part-gather-block-end (cut-set-calls t) (cut-set-at t) cut-set.Post cut-set-Inv-loop cut-set-μ-loop
 cut-set-part-gather-block-end t c = search needs
 
--- src/sets.rt:62:13
 cut-set-gather-block-requires : (t : ℕ) → cut-set-lts.Need-gather-block-requires (cut-set-calls t) (cut-set-at t) cut-set.Post cut-set-Inv-loop cut-set-μ-loop
 cut-set-gather-block-requires t c κs = let s = c .before .before .before .before .before .loop in
     let a = c .before .before .before .before .before .before .before .args in
@@ -168,31 +153,24 @@ cut-set-gather-block-requires t c κs = let s = c .before .before .before .befor
       rw (e, length-drop) (omega arith),
     )
 
--- src/sets.rt:63:20
 cut-set-add-next : (t : ℕ) → cut-set-lts.Need-add-next (cut-set-calls t) (cut-set-at t) cut-set.Post cut-set-Inv-loop cut-set-μ-loop
 cut-set-add-next t c = omega (arith, c .before .before .before .before .before .before .before .before .before .pre .1 .listed .few, inside t (c .before))
 
--- src/sets.rt:65:9
 cut-set-give-slots-requires : (t : ℕ) → cut-set-lts.Need-give-slots-requires (cut-set-calls t) (cut-set-at t) cut-set.Post cut-set-Inv-loop cut-set-μ-loop
 cut-set-give-slots-requires t c κs = (c .before .before .before .before .before .before .before .before .before .before .loop .inv .4, omega (arith, c .before .before .before .before .before .before .before .before .before .before .before .before .pre .1 .room))
 
--- src/sets.rt:73:13
 cut-set-mul-solve-block : (t : ℕ) → cut-set-lts.Need-mul-solve-block (cut-set-calls t) (cut-set-at t) cut-set.Post cut-set-Inv-loop cut-set-μ-loop
 cut-set-mul-solve-block t c = omega (arith, c .before .before .before .before .before .before .before .before .before .before .before .before .before .pre .1 .listed .few)
 
--- src/sets.rt:73:13
 cut-set-sub-solve-block : (t : ℕ) → cut-set-lts.Need-sub-solve-block (cut-set-calls t) (cut-set-at t) cut-set.Post cut-set-Inv-loop cut-set-μ-loop
 cut-set-sub-solve-block t c = omega arith
 
--- src/sets.rt:73:13
 cut-set-part-solve-block-start : (t : ℕ) → cut-set-lts.Need-part-solve-block-start (cut-set-calls t) (cut-set-at t) cut-set.Post cut-set-Inv-loop cut-set-μ-loop
 cut-set-part-solve-block-start t c = omega arith
 
--- src/sets.rt:73:13
 cut-set-part-solve-block-end : (t : ℕ) → cut-set-lts.Need-part-solve-block-end (cut-set-calls t) (cut-set-at t) cut-set.Post cut-set-Inv-loop cut-set-μ-loop
 cut-set-part-solve-block-end t c = omega (arith, inside t (c .before .before .before .before .before), c .before .before .before .before .before .before .before .before .before .before .before .loop .inv .1)
 
--- src/sets.rt:66:9
 cut-set-solve-block-requires : (t : ℕ) → cut-set-lts.Need-solve-block-requires (cut-set-calls t) (cut-set-at t) cut-set.Post cut-set-Inv-loop cut-set-μ-loop
 cut-set-solve-block-requires t c κs = let a = c .before .before .before .before .before .before .before .before .before .before .before .before .before .before .before .before .before .before .args in
     let s = c .before .before .before .before .before .before .before .before .before .before .before .before .before .before .before .before .loop in
@@ -211,11 +189,9 @@ cut-set-solve-block-requires t c κs = let a = c .before .before .before .before
       },
     )
 
--- src/sets.rt:59:5
 cut-set-loop-less : (t : ℕ) → cut-set-lts.Need-loop-less (cut-set-calls t) (cut-set-at t) cut-set.Post cut-set-Inv-loop cut-set-μ-loop
 cut-set-loop-less t c = omega (arith, inside t (c .before .before .before .before .before .before .before .before .before .before .before .before .before), extent t (c .before .before .before .before .before .before .before .before .before .before .before .before .before) .some-one)
 
--- src/sets.rt:59:5
 cut-set-loop-again : (t : ℕ) → cut-set-lts.Need-loop-again (cut-set-calls t) (cut-set-at t) cut-set.Post cut-set-Inv-loop cut-set-μ-loop
 cut-set-loop-again t c = let a = c .before .before .before .before .before .before .before .before .before .before .before .before .before .before .before .before .before .before .before .before .before .args in
     let s = c .before .before .before .before .before .before .before .before .before .before .before .before .before .before .before .before .before .before .before .loop in
@@ -238,6 +214,7 @@ cut-set-loop-again t c = let a = c .before .before .before .before .before .befo
         c .before .before .before .before .before .before .before .before .give-slots .ensures .few,
         c .before .before .solve-block .ensures .0 .few,
         s .inv .5,
+        share-most (a .aside),
       ),
       λ f h.
           next-block (a .m) (a .befores .now) (a .afters .now) (a .ready .now) (a .durations .now) (a .latests .now)
@@ -247,15 +224,12 @@ cut-set-loop-again t c = let a = c .before .before .before .before .before .befo
           ∙ s .inv .6 f h,
     )
 
--- src/sets.rt:85:5
 cut-set-give-slots-requires-2 : (t : ℕ) → cut-set-lts.Need-give-slots-requires-2 (cut-set-calls t) (cut-set-at t) cut-set.Post cut-set-Inv-loop cut-set-μ-loop
 cut-set-give-slots-requires-2 t c κs = (c .before .before .before .before .loop .inv .4, omega (arith, c .before .before .before .before .before .before .pre .1 .room))
 
--- src/sets.rt:16:1
 cut-set-same-length : (t : ℕ) → cut-set-lts.Need-same-length (cut-set-calls t) (cut-set-at t) cut-set.Post cut-set-Inv-loop cut-set-μ-loop
 cut-set-same-length t c = c .before .before .before .before .before .loop .inv .1
 
--- src/sets.rt:16:1
 cut-set-returns : (t : ℕ) → cut-set-lts.Need-returns (cut-set-calls t) (cut-set-at t) cut-set.Post cut-set-Inv-loop cut-set-μ-loop
 cut-set-returns t c = let a = c .before .before .before .before .before .before .before .args in
     let s = c .before .before .before .before .before .loop in
@@ -271,15 +245,12 @@ cut-set-returns t c = let a = c .before .before .before .before .before .before 
           ∙ s .inv .6 f h,
     )
 
--- src/sets.rt:128:9
 solve-block-set-aside-requires : (t : ℕ) → solve-block-lts.Need-set-aside-requires (solve-block-calls t) (solve-block-at t) solve-block.Post
 solve-block-set-aside-requires t c κs = (c .before .before .before .pre .1 .links, (c .before .before .before .pre .1 .listed .known, c .before .before .before .pre .1 .marks-sized))
 
--- src/sets.rt:130:9
 solve-block-same-length : (t : ℕ) → solve-block-lts.Need-same-length (solve-block-calls t) (solve-block-at t) solve-block.Post
 solve-block-same-length t c = refl
 
--- src/sets.rt:130:9
 solve-block-returns : (t : ℕ) → solve-block-lts.Need-returns (solve-block-calls t) (solve-block-at t) solve-block.Post
 solve-block-returns t c = let a = c .before .before .before .before .before .args in (
   record {
@@ -292,20 +263,16 @@ solve-block-returns t c = let a = c .before .before .before .before .before .arg
       (c .before .set-aside .result) (c .before .set-aside .ensures .0) _ (c .if1 .taken),
 )
 
--- src/sets.rt:132:9
 solve-block-without-requires : (t : ℕ) → solve-block-lts.Need-without-requires (solve-block-calls t) (solve-block-at t) solve-block.Post
 solve-block-without-requires t c κs = tt
 
--- src/sets.rt:140:9
 solve-block-slice-relend-prefix-cut-set :
     (t : ℕ) → solve-block-lts.Need-slice-relend-prefix-cut-set (solve-block-calls t) (solve-block-at t) solve-block.Post
 solve-block-slice-relend-prefix-cut-set t c = c .before .before .without .ensures .within
 
--- src/sets.rt:140:9
 solve-block-slice-aggregate-cut-set : (t : ℕ) → solve-block-lts.Need-slice-aggregate-cut-set (solve-block-calls t) (solve-block-at t) solve-block.Post
 solve-block-slice-aggregate-cut-set t c = sym (length-take-le _ (c .before .before .before .without .last .0) (c .before .before .before .without .ensures .within))
 
--- src/sets.rt:133:5
 solve-block-cut-set-requires : (t : ℕ) → solve-block-lts.Need-cut-set-requires (solve-block-calls t) (solve-block-at t) solve-block.Post
 solve-block-cut-set-requires t c κs = let a = c .before .before .before .before .before .before .before .before .before .before .before .before .before .before .args in
     let p = c .before .before .before .before .before .before .before .before .before .before .before .before .before .before .pre .1 in
@@ -320,17 +287,15 @@ solve-block-cut-set-requires t c κs = let a = c .before .before .before .before
         listed = rw (w .rest) (listed-keep _ (a .ids .now) _ (p .listed));
         marks-sized = c .before .before .before .before .before .before .before .before .before .before .set-aside .ensures .1;
         tables = p .tables;
-        room = omega (arith, l, p .room);
+        room = omega (arith, l, p .room, share-most x);
       },
     )
 
--- src/sets.rt:89:1
 solve-block-same-length-2 : (t : ℕ) → solve-block-lts.Need-same-length-2 (solve-block-calls t) (solve-block-at t) solve-block.Post
 solve-block-same-length-2 t c = length-front (c .before .before .before .before .before .before .before .before .before .before .without .last .0) (c .before .before .cut-set .last .1 .1 .1 .1 .1 .1 .0) (c .before .before .before .before .before .before .before .before .before .before .without .result)
     (c .before .before .cut-set .kept .1 .1 .1 .1 .1 .1 .0)
     ∙ c .before .before .before .before .before .before .before .before .before .before .without .kept .0
 
--- src/sets.rt:89:1
 solve-block-returns-2 : (t : ℕ) → solve-block-lts.Need-returns-2 (solve-block-calls t) (solve-block-at t) solve-block.Post
 solve-block-returns-2 t c = let a = c .before .before .before .before .before .before .before .before .before .before .before .before .before .before .before .before .before .args in
     let w = c .before .before .before .before .before .before .before .before .before .before .without .ensures in
@@ -342,7 +307,7 @@ solve-block-returns-2 t c = let a = c .before .before .before .before .before .b
       record {
         marks-sized = g .0 .marks-sized;
         tables = g .0 .tables;
-        few = omega (arith, l, g .0 .few);
+        few = omega (arith, l, g .0 .few, share-most x);
       },
       λ f work h e.
           solved-by-cut (a .m) _ _ (a .ready .now) (a .durations .now) _ (a .ids .now) (a .from) work f x
