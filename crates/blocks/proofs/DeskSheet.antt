@@ -20,7 +20,8 @@ use Rattle.rules.specs.Runs.{runsFrom}
 use Rattle.rules.specs.Entries.{Entry, entry, entries}
 use Rattle.rules.specs.Blocks.{inOrder, blockEnd, cutInOrder, cut, blockWorked}
 use Rattle.rules.specs.BlockSheet.{blocks, blockRuns, blockNumbers}
-use Rattle.laws.proofs.Words.{map-same, mem-row, mem-below, map-twice, mem-map, below-mem}
+use Rattle.laws.proofs.Words.{map-same, mem-row, mem-below, mem-map, below-mem}
+use Rattle.laws.proofs.Joined.{map-twice}
 use Rattle.laws.proofs.Sound.{place-mem}
 use Rattle.laws.proofs.Signed.{up, dn, _≼_, below-zero, below-zero-is}
 use Rattle.laws.proofs.Latest.{latest-least, latest-most}

@@ -19,7 +19,8 @@ use mir.Facts.{toZ-ofZ}
 use Rattle.rules.specs.Words.{when, keep, oneOf}
 use Rattle.rules.specs.Entries.{Entry}
 use Rattle.rules.specs.Blocks.{withoutFollower, costsLess, cheaper, cheapest, setAside, others}
-use Rattle.laws.proofs.Words.{by-test, when-true, when-false, mem-keep, mem-of-map, oneOf-intro}
+use Rattle.laws.proofs.Words.{by-test, when-true, when-false, mem-keep, oneOf-intro}
+use Rattle.laws.proofs.Joined.{mem-of-map}
 use Rattle.laws.proofs.Sound.{place-mem}
 use Rattle.theory.proofs.Lists.{_∈_}
 use Rattle.blocksteps.specs.Listed.{entryIn}

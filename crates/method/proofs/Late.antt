@@ -19,7 +19,8 @@ use Rattle.rules.specs.Runs.{Run, runsFrom}
 use Rattle.rules.specs.Entries.{Entry, entry, entries}
 use Rattle.rules.specs.Blocks.{blockWorked}
 use Rattle.rules.specs.BlockSheet.{blockRuns, blockLateness}
-use Rattle.laws.proofs.Words.{by-test, mem-map, mem-of-map, mem-keep, keep-mem, greatest-mem}
+use Rattle.laws.proofs.Words.{by-test, mem-map, mem-keep, keep-mem, greatest-mem}
+use Rattle.laws.proofs.Joined.{mem-of-map}
 use Rattle.laws.proofs.Signed.{up, dn, _≼_, same, minus, greatestZ-start, greatestZ-mem, greatestZ-least}
 use Rattle.laws.proofs.Hours.{always-open}
 use Rattle.theory.proofs.Turns.{turns-of, turnsOf}

@@ -8,7 +8,8 @@ use mathlib.Core.Path.{_≡_, refl, sym, ap, _∙_}
 use native.Mathlib.Omega.{arith}
 use Rattle.rules.specs.Words.{when, orElse, row, below}
 use Rattle.rules.specs.Runs.{runsFrom}
-use Rattle.laws.proofs.Words.{by-test, when-true, when-false, map-twice}
+use Rattle.laws.proofs.Words.{by-test, when-true, when-false}
+use Rattle.laws.proofs.Joined.{map-twice}
 use Rattle.theory.proofs.Plans.{Plan}
 use Rattle.theory.proofs.Turns.{turnsOf}
 use Rattle.method.specs.Board.{Stretch, stretchAt, boardIn, runOf, runsIn, holder}

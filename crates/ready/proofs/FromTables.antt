@@ -13,7 +13,8 @@ use Rattle.rules.specs.Tables.{pieceIn, linkIn, piecesIn, linksIn, jobIn, Sound
 use Rattle.rules.specs.Entries.{ready, raised}
 use Rattle.rules.specs.declared.Piece.{Piece}
 use Rattle.rules.specs.declared.Link.{Link}
-use Rattle.laws.proofs.Words.{length-below, getD-below, mem-below, below-mem, mem-map, mem-of-map}
+use Rattle.laws.proofs.Words.{length-below, getD-below, mem-below, below-mem, mem-map}
+use Rattle.laws.proofs.Joined.{mem-of-map}
 use Rattle.laws.proofs.Sound.{fits, link-fit, into-link, ahead, ahead-falls, ahead-few, along-before}
 use Rattle.laws.proofs.Delay.{delay-most}
 use Rattle.laws.proofs.Raised.{elsewhere-link, own-link, ready-least, raised-least}

@@ -1,0 +1,92 @@
+-- `put_blocks` meets its contract: each record is stored right behind the ones before it.
+use Prim.Native.Nat.{_≤_, _+_, _-_, _*_}
+use mathlib.Core.Path.{_≡_, refl, ap, _∙_}
+use native.Mathlib.Omega.{arith}
+use borrow.Author.Needs.{needs}
+use lib.ListN.{length, getD}
+use lib.Seq.{sets}
+use Rattle.rules.specs.Bytes.{word, planRecord}
+use Rattle.sheets.specs.Listed.{recordsIn}
+use Rattle.sheets.proofs.RecordLaws.{none-put, one-put}
+use Rattle.sheets.proofs.rows.put_blocks.Statement.{statement}
+use Rattle.sheets.proofs.rows.put_blocks.Tie as tie
+use Rattle.sheets.proofs.rows.put_blocks.Reads as reads
+use Rattle.sheets.proofs.rows.put_blocks.Lts as lts
+use Rattle.records.proofs.put.put_record.Reads as put-record-reads
+
+abbrev Inv-loop : tie.InvT-loop
+Inv-loop desk count counts starts ends buffer₀ k₀ buffer k =
+    (k ≤ count) × (length buffer ≡ length buffer₀) × (buffer ≡ sets buffer₀ 0 (recordsIn 19 desk counts starts ends k))
+
+abbrev μ-loop : tie.MeasureT-loop
+μ-loop desk count counts starts ends buffer₀ k₀ buffer k = count - k
+
+loop-holds : tie.Need-loop-holds Inv-loop μ-loop
+loop-holds c = (omega arith, refl, none-put 19 _ _ _ _ _ _)
+
+mul-put-record : tie.Need-mul-put-record Inv-loop μ-loop
+mul-put-record c = search needs
+
+mul-put-record-2 : tie.Need-mul-put-record-2 Inv-loop μ-loop
+mul-put-record-2 c = search needs
+
+element-copy-out-put-record : tie.Need-element-copy-out-put-record Inv-loop μ-loop
+element-copy-out-put-record c = search needs
+
+mul-put-record-3 : tie.Need-mul-put-record-3 Inv-loop μ-loop
+mul-put-record-3 c = search needs
+
+element-copy-out-put-record-2 : tie.Need-element-copy-out-put-record-2 Inv-loop μ-loop
+element-copy-out-put-record-2 c = search needs
+
+mul-put-record-4 : tie.Need-mul-put-record-4 Inv-loop μ-loop
+mul-put-record-4 c = search needs
+
+element-copy-out-put-record-3 : tie.Need-element-copy-out-put-record-3 Inv-loop μ-loop
+element-copy-out-put-record-3 c = search needs
+
+put-record-requires : tie.Need-put-record-requires Inv-loop μ-loop
+put-record-requires c κs = omega arith
+
+add-k : tie.Need-add-k Inv-loop μ-loop
+add-k c = search needs
+
+loop-less : tie.Need-loop-less Inv-loop μ-loop
+loop-less c = search needs
+
+loop-again : tie.Need-loop-again Inv-loop μ-loop
+loop-again c =
+    let a = c .before .before .before .before .before .before .before .before .before .before .args in
+    let L = c .before .before .before .before .before .before .before .before .loop in
+    let q : 16 * L .k ≡ 0 + 16 * L .k = omega arith in
+    let w = one-put 19 (a .desk) _ _ _ (a .buffer .now) (L .buffer) _ 0 (L .k) (L .inv .2)
+    (c .before .before .put-record .ensures ∙ ap (λ x. sets (L .buffer) x (planRecord 19 (a .desk) (getD (a .counts .now) (L .k) 0) (word (getD (a .starts .now) (L .k) 0)) (word (getD (a .ends .now) (L .k) 0)) (word 0))) q) in
+    (omega arith, w .0 ∙ L .inv .1, w .1)
+
+same-length : tie.Need-same-length Inv-loop μ-loop
+same-length c = c .before .loop .inv .1
+
+returns : tie.Need-returns Inv-loop μ-loop
+returns c =
+    let q : c .before .loop .k ≡ c .before .before .before .args .count = omega arith in rw (← q) (c .before .loop .inv .2)
+
+pub put-blocks-spec : {M : Type 1} → statement M
+put-blocks-spec =
+    tie.close
+    (tie.spec
+    Inv-loop
+    μ-loop
+    loop-holds
+    mul-put-record
+    mul-put-record-2
+    element-copy-out-put-record
+    mul-put-record-3
+    element-copy-out-put-record-2
+    mul-put-record-4
+    element-copy-out-put-record-3
+    put-record-requires
+    add-k
+    loop-less
+    loop-again
+    same-length
+    returns)
