@@ -1,2 +1,2 @@
-// The public call of the block sheet of one desk, for every job file, every desk number and every lent buffer.
+// The block sheet in the lent buffer: records of blocks and of runs.
 pub mod rows;

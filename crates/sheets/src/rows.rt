@@ -38,7 +38,16 @@ pub fn put_runs(
 {
     let mut k = 0;
     while k < count {
-        put_record(buffer, at + 16 * k, 18, desk, pieces[k], froms[k], untils[k], 0);
+        put_record(
+            buffer,
+            at + 16 * k,
+            18,
+            desk,
+            pieces[k],
+            froms[k],
+            untils[k],
+            0,
+        );
         k += 1;
     }
 }
