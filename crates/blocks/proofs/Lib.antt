@@ -2,3 +2,4 @@ pub mod Sorting
 pub mod Worst
 pub mod Recording
 pub mod DeskSheet
+pub mod FromPlan

@@ -16,6 +16,7 @@ use Rattle.rules.specs.BlockSheet.{blocks, blockRuns, blockNumbers}
 use Rattle.method.specs.Board.{runsIn}
 use Rattle.blocksteps.specs.Listed.{tiedIn}
 use Rattle.blocksteps.specs.Aside.{Tied}
+use Rattle.ready.specs.Planned.{Planned}
 use Rattle.blocks.specs.Rows.{BlockRow, rowsIn}
 
 -- The tables hold job J, sound and without a ring: its desks, durations and links, its raised ready moments and its latest
@@ -46,3 +47,9 @@ pub record SheetOf (J : Job) (d : ℕ) (counts starts ends pieces froms untils :
   -- No more blocks than pieces, and no more than two runs for each.
   pub few-blocks : rows ≤ length (deskPieces J d)
   pub few-runs : runs ≤ 2 * length (deskPieces J d)
+
+-- The tables hold job J and its finished plan, and its latest moments.
+pub record Laid (J : Job) (n m : ℕ) (desks durations releases befores afters handovers finishes : List ℕ)
+    (latests : List ℤ) : Type 0 where
+  pub planned : Planned J n m desks durations releases befores afters handovers finishes
+  pub latest-is : (i : ℕ) → i < n → getD latests i (pos 0) ≡ latest J i

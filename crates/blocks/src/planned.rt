@@ -1,0 +1,74 @@
+// The block sheet of one desk out of the tables of a finished plan: the raised ready moments are made of them first.
+use crate::sheet::Sheet;
+use crate::sheet::desk_sheet;
+use ready::raise::raised_moments;
+ghost use Rattle.rules.specs.Job.{Job};
+ghost use Rattle.method.specs.Board.{Tables};
+ghost use Rattle.blocks.specs.Rows.{RowTables};
+ghost use Rattle.blocks.specs.Sheet.{Laid, SheetOf};
+
+pub fn planned_sheet(
+    n: usize,
+    m: usize,
+    desk: u8,
+    desks: &[u8; 256],
+    durations: &[u16; 256],
+    releases: &[u32; 256],
+    befores: &[u16; 1024],
+    afters: &[u16; 1024],
+    handovers: &[u16; 1024],
+    finishes: &[u32; 256],
+    latests: &[i32; 256],
+    counts: &mut [u16; 256],
+    starts: &mut [u32; 256],
+    ends: &mut [u32; 256],
+    pieces: &mut [u16; 512],
+    froms: &mut [u32; 512],
+    untils: &mut [u32; 512],
+) -> Sheet
+    requires { ⌜
+        ((J : Job) × Laid J n m (now desks) (now durations) (now releases) (now befores) (now afters) (now handovers)
+        (now finishes) (now latests))
+        ⌝ }
+    requires { ⌜ RowTables (now counts) (now starts) (now ends) ⌝ }
+    requires { ⌜ Tables (now pieces) (now froms) (now untils) ⌝ }
+    ensures { λ r.
+        ⌜
+        ((J : Job) → Laid J n m (now (desks .entry)) (now (durations .entry)) (now (releases .entry))
+        (now (befores .entry)) (now (afters .entry)) (now (handovers .entry)) (now (finishes .entry))
+        (now (latests .entry))
+        → SheetOf J desk (now (counts .exit)) (now (starts .exit)) (now (ends .exit)) (now (pieces .exit))
+        (now (froms .exit)) (now (untils .exit)) (r .blocks) (r .runs) (r .worst))
+        ⌝ }
+{
+    let mut ready = [0u32; 256];
+    raised_moments(
+        n,
+        m,
+        desks,
+        durations,
+        releases,
+        befores,
+        afters,
+        handovers,
+        finishes,
+        &mut ready,
+    );
+    desk_sheet(
+        n,
+        m,
+        desk,
+        desks,
+        durations,
+        befores,
+        afters,
+        &ready,
+        latests,
+        counts,
+        starts,
+        ends,
+        pieces,
+        froms,
+        untils,
+    )
+}
