@@ -1,2 +1,4 @@
 -- What the proofs of this crate share.
 pub mod RecordLaws
+pub mod SheetLaws
+pub mod Promised
