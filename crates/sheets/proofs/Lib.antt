@@ -2,3 +2,4 @@
 pub mod RecordLaws
 pub mod SheetLaws
 pub mod Promised
+pub mod FilledLaws

@@ -6,7 +6,7 @@ use mathlib.Core.Path.{_≡_, refl, sym, ap, _∙_}
 use native.Mathlib.Omega.{arith}
 use borrow.Author.Tests.{lt-ltb, le-ltb}
 use lib.Dec.{ltb}
-use lib.IntN.{ℤ, pos}
+use lib.IntN.{ℤ}
 use lib.ListN.{length, length-append}
 use lib.Seq.{sets}
 use Rattle.rules.specs.Words.{when}
@@ -22,12 +22,9 @@ use Rattle.records.proofs.Stores.{sets-on}
 use Rattle.planner.proofs.PlanLaws.{stored-front}
 use Rattle.blocks.specs.Sheet.{SheetOf}
 use Rattle.sheets.specs.Listed.{recordsIn}
+use Rattle.sheets.specs.Refused.{refusedSheet}
 use Rattle.sheets.proofs.RecordLaws.{records-length}
 use Rattle.sheets.proofs.SheetLaws.{bytes-here}
-
--- A refusal: its number and place, and zeros.
-abbrev pub refusedSheet : Refusal → BlockAnswer
-refusedSheet x = record { number = x .number; place = x .place; blocks = 0; runs = 0; worst = pos 0 }
 
 -- Whatever is refused leaves the buffer as it was.
 leaves-all : (file : List ℕ) (d : ℕ) (buffer : List ℕ) (x : Refusal) → blockOutcome file d (length buffer) ≡ refused x

@@ -1,2 +1,3 @@
-// The block sheet in the lent buffer: records of blocks and of runs.
+// The block sheet of one desk: the public call, and its records of blocks and of runs in the lent buffer.
 pub mod rows;
+pub mod sheet;

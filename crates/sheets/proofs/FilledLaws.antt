@@ -1,0 +1,102 @@
+-- What the stations of one block sheet hand on: the plan in its tables is what the block method asks for, its sheet has room
+-- in the lent buffer, and its counts are the page's answer.
+use Prim.Native.Nat.{ℕ, _+_, _*_, _≤_, _<_}
+use mathlib.Core.List.{List, map}
+use mathlib.Core.Path.{_≡_, refl, sym, ap, _∙_}
+use native.Mathlib.Omega.{arith}
+use lib.Dec.{eqb}
+use lib.IntN.{ℤ}
+use lib.ListN.{length, length-map}
+use lib.Seq.{sets, length-sets}
+use Rattle.rules.specs.Words.{below}
+use Rattle.rules.specs.Job.{Job, pieceCount, desk, deskPieces}
+use Rattle.rules.specs.Tables.{jobIn}
+use Rattle.rules.specs.BlockSheet.{blocks, blockRuns, blockNumbers}
+use Rattle.laws.proofs.Words.{keep-length, length-below}
+use Rattle.links.specs.Moments.{Timed}
+use Rattle.links.proofs.LinkLaws.{job-pieces}
+use Rattle.urgency.specs.Plan as U
+use Rattle.method.specs.Board.{runOf, stretchAt, runsIn}
+use Rattle.blocks.specs.Rows.{rowAt, rowsIn}
+use Rattle.blocks.specs.Sheet.{sheetRow, Laid, SheetOf}
+use Rattle.planner.specs.Judged.{Planable}
+use Rattle.sheets.specs.Listed.{recordsIn}
+use Rattle.planner.proofs.WriteLaws.{sound-here, free-here, given-here}
+
+module _ (n m : ℕ) (desks durations releases dues befores afters handovers : List ℕ)
+    (P : Planable n m (jobIn n m desks durations releases dues befores afters handovers))
+    (latests : List ℤ) (timed : Timed n m durations dues befores afters latests) (starts finishes pieces froms untils : List ℕ) (count : ℕ)
+    (planned : U.Planned (jobIn n m desks durations releases dues befores afters handovers) n desks starts finishes pieces froms untils count)
+  where
+    pub laid-here : Laid (jobIn n m desks durations releases dues befores afters handovers) n m desks durations releases befores afters
+        handovers finishes latests
+    laid-here = record {
+      planned = record {
+        dues = dues;
+        is = refl;
+        sound = sound-here n m desks durations releases dues befores afters handovers P;
+        free = free-here n m desks durations releases dues befores afters handovers P;
+        finished = planned .finish-is;
+      };
+      latest-is = given-here n m desks durations releases dues befores afters handovers P latests timed .latest-is;
+    }
+
+-- A desk has no more pieces than there are.
+desk-few : (J : Job) (d : ℕ) → length (deskPieces J d) ≤ pieceCount J
+unfolding deskPieces
+desk-few J d =
+    omega (arith, keep-length (λ i. eqb (desk J i) d) (below (pieceCount J)), length-below (pieceCount J))
+
+-- So its sheet has few records.
+module _ (n m : ℕ) (desks durations releases dues befores afters handovers : List ℕ) {d : ℕ}
+    {counts starts ends pieces froms untils : List ℕ} {rows runs : ℕ} {worst : ℤ}
+    (sheet : SheetOf (jobIn n m desks durations releases dues befores afters handovers) d counts starts ends pieces froms untils rows runs worst)
+  where
+    desk-most : length (deskPieces (jobIn n m desks durations releases dues befores afters handovers) d) ≤ n
+    desk-most =
+        omega (
+          arith,
+          desk-few (jobIn n m desks durations releases dues befores afters handovers) d,
+          job-pieces n m desks durations releases dues befores afters handovers,
+        )
+
+    pub rows-few : rows ≤ n
+    rows-few = omega (arith, sheet .few-blocks, desk-most)
+
+    pub runs-few : runs ≤ 2 * n
+    runs-few = omega (arith, sheet .few-runs, desk-most)
+
+    -- They have room where 48 bytes for each piece are lent, and the runs have it behind the blocks.
+    pub all-fits : (buffer : List ℕ) → 48 * n ≤ length buffer → 16 * rows + 16 * runs ≤ length buffer
+    all-fits buffer room = omega (arith, rows-few, runs-few)
+
+    pub room-behind : (buffer mid : List ℕ) → 48 * n ≤ length buffer → mid ≡ sets buffer 0 (recordsIn 19 d counts starts ends rows)
+        → 16 * rows + 16 * runs ≤ length mid
+    room-behind buffer mid room put =
+        omega (arith, all-fits buffer room, ap length put, length-sets buffer 0 (recordsIn 19 d counts starts ends rows))
+
+module _ (J : Job) (d : ℕ) (counts starts ends pieces froms untils : List ℕ) (rows runs : ℕ) (worst : ℤ)
+    (sheet : SheetOf J d counts starts ends pieces froms untils rows runs worst) where
+  rows-are : rows ≡ length (blocks J d)
+  unfolding rowsIn
+  rows-are =
+      sym (length-map (below rows) (rowAt counts starts ends) ∙ length-below rows) ∙ ap length (sheet .blocks-are)
+      ∙ length-map (blocks J d) (sheetRow J d)
+
+  runs-are : runs ≡ length (blockRuns J d)
+  unfolding runsIn
+  runs-are =
+      sym (length-map (below runs) (λ j. runOf (stretchAt pieces froms untils j)) ∙ length-below runs)
+      ∙ ap length (sheet .runs-are)
+
+  -- The whole answer.
+  pub answer-here : (w : ℤ) → w ≡ worst
+      → record { number = 0; place = 0; blocks = rows; runs = runs; worst = w } ≡ blockNumbers J d
+  unfolding blockNumbers
+  answer-here w e = λ i. record {
+    number = 0;
+    place = 0;
+    blocks = rows-are i;
+    runs = runs-are i;
+    worst = (e ∙ sheet .worst-is) i;
+  }

@@ -1,0 +1,252 @@
+// The block sheet of one desk of a job file: records of blocks and of runs in the lent buffer. Everything is judged before
+// the first byte is written.
+use crate::rows::put_blocks;
+use crate::rows::put_runs;
+use blocks::planned::planned_sheet;
+use blocks::sheet::Sheet;
+use links::moments::latest_moments;
+use planner::judged::judge_file;
+use reader::Read;
+use rules::BlockAnswer;
+use rules::Refusal;
+ghost use mathlib.Core.List.{List};
+ghost use mathlib.Core.Path.{_≡_};
+ghost use Prim.Native.Nat.{ℕ, _≤_};
+ghost use lib.ListN.{length};
+ghost use Rattle.rules.specs.Job.{accepted};
+ghost use Rattle.rules.specs.Judgement.{fileOutcome};
+ghost use Rattle.rules.specs.Tables.{jobIn};
+ghost use Rattle.demands.specs.Promises.{BlockPromise};
+ghost use Rattle.method.specs.Board.{Tables};
+ghost use Rattle.blocks.specs.Rows.{RowTables};
+ghost use Rattle.blocks.specs.Sheet.{SheetOf};
+ghost use Rattle.planner.specs.Judged.{Planable, ToPlan};
+ghost use Rattle.sheets.specs.Refused.{refusedSheet};
+
+// A refused call: its number and place, every other number of the answer zero.
+fn refused(refusal: Refusal) -> BlockAnswer
+    ensures { λ r. ⌜ r ≡ refusedSheet refusal ⌝ }
+{
+    BlockAnswer {
+        number: refusal.number,
+        place: refusal.place,
+        blocks: 0,
+        runs: 0,
+        worst: 0,
+    }
+}
+
+// The accepted job in its tables: its plan, and out of that the desk's blocks and runs in the lent tables. The log of the
+// plan is needed no longer when the block method begins, so its tables take the runs of that.
+fn fill_sheet(
+    n: usize,
+    m: usize,
+    desk: u8,
+    desks: &[u8; 256],
+    durations: &[u16; 256],
+    releases: &[u32; 256],
+    dues: &[u32; 256],
+    befores: &[u16; 1024],
+    afters: &[u16; 1024],
+    handovers: &[u16; 1024],
+    counts: &mut [u16; 256],
+    starts: &mut [u32; 256],
+    ends: &mut [u32; 256],
+    pieces: &mut [u16; 512],
+    froms: &mut [u32; 512],
+    untils: &mut [u32; 512],
+) -> Sheet
+    requires { ⌜ Planable n m (jobIn n m (now desks) (now durations) (now releases) (now dues) (now befores) (now afters)
+        (now handovers)) ⌝ }
+    requires { ⌜ RowTables (now counts) (now starts) (now ends) ⌝ }
+    requires { ⌜ Tables (now pieces) (now froms) (now untils) ⌝ }
+    ensures { λ r. ⌜ SheetOf (jobIn n m (now (desks .entry)) (now (durations .entry)) (now (releases .entry))
+        (now (dues .entry)) (now (befores .entry)) (now (afters .entry)) (now (handovers .entry))) desk
+        (now (counts .exit)) (now (starts .exit)) (now (ends .exit)) (now (pieces .exit)) (now (froms .exit))
+        (now (untils .exit)) (r .blocks) (r .runs) (r .worst) ⌝ }
+{
+    let mut latests = [0i32; 256];
+    latest_moments(n, m, durations, dues, befores, afters, &mut latests);
+    let mut finishes = [0u32; 256];
+    urgency::plan(
+        n,
+        m,
+        desks,
+        durations,
+        releases,
+        dues,
+        befores,
+        afters,
+        handovers,
+        &latests,
+        starts,
+        &mut finishes,
+        pieces,
+        froms,
+        untils,
+    );
+    planned_sheet(
+        n,
+        m,
+        desk,
+        desks,
+        durations,
+        releases,
+        befores,
+        afters,
+        handovers,
+        &finishes,
+        &latests,
+        counts,
+        starts,
+        ends,
+        pieces,
+        froms,
+        untils,
+    )
+}
+
+// With room for its records: writes the sheet and answers.
+fn write_sheet(
+    n: usize,
+    m: usize,
+    desk: u8,
+    desks: &[u8; 256],
+    durations: &[u16; 256],
+    releases: &[u32; 256],
+    dues: &[u32; 256],
+    befores: &[u16; 1024],
+    afters: &[u16; 1024],
+    handovers: &[u16; 1024],
+    buffer: &mut [u8],
+) -> BlockAnswer
+    requires { ⌜ ToPlan n m (jobIn n m (now desks) (now durations) (now releases) (now dues) (now befores) (now afters)
+        (now handovers)) (length (now buffer)) ⌝ }
+    requires { ⌜ desk ≤ 31 ⌝ }
+    ensures { λ r. ⌜ ((file : List ℕ) → fileOutcome file ≡ accepted (jobIn n m (now (desks .entry))
+        (now (durations .entry)) (now (releases .entry)) (now (dues .entry)) (now (befores .entry)) (now (afters .entry))
+        (now (handovers .entry))) → BlockPromise file desk (now (buffer .entry)) r (now (buffer .exit))) ⌝ }
+{
+    let mut counts = [0u16; 256];
+    let mut starts = [0u32; 256];
+    let mut ends = [0u32; 256];
+    let mut pieces = [0u16; 512];
+    let mut froms = [0u32; 512];
+    let mut untils = [0u32; 512];
+    let sheet = fill_sheet(
+        n,
+        m,
+        desk,
+        desks,
+        durations,
+        releases,
+        dues,
+        befores,
+        afters,
+        handovers,
+        &mut counts,
+        &mut starts,
+        &mut ends,
+        &mut pieces,
+        &mut froms,
+        &mut untils,
+    );
+    let rows = sheet.blocks;
+    let runs = sheet.runs;
+    put_blocks(desk, rows, &counts, &starts, &ends, buffer);
+    put_runs(desk, runs, &pieces, &froms, &untils, 16 * rows, buffer);
+    BlockAnswer {
+        number: 0,
+        place: 0,
+        blocks: rows as u32,
+        runs: runs as u32,
+        worst: sheet.worst,
+    }
+}
+
+// An accepted job: 13 where there is no such desk, then 12 where the lent buffer is too short, and else the sheet.
+fn sheet_accepted(
+    n: usize,
+    m: usize,
+    desk: u8,
+    desks: &[u8; 256],
+    durations: &[u16; 256],
+    releases: &[u32; 256],
+    dues: &[u32; 256],
+    befores: &[u16; 1024],
+    afters: &[u16; 1024],
+    handovers: &[u16; 1024],
+    buffer: &mut [u8],
+) -> BlockAnswer
+    requires { ⌜ Planable n m (jobIn n m (now desks) (now durations) (now releases) (now dues) (now befores) (now afters)
+        (now handovers)) ⌝ }
+    ensures { λ r. ⌜ ((file : List ℕ) → fileOutcome file ≡ accepted (jobIn n m (now (desks .entry))
+        (now (durations .entry)) (now (releases .entry)) (now (dues .entry)) (now (befores .entry)) (now (afters .entry))
+        (now (handovers .entry))) → BlockPromise file desk (now (buffer .entry)) r (now (buffer .exit))) ⌝ }
+{
+    if 31 < desk {
+        return refused(Refusal {
+            number: 13,
+            place: 0,
+        });
+    }
+    if buffer.len() < 48 * n {
+        return refused(Refusal {
+            number: 12,
+            place: 0,
+        });
+    }
+    write_sheet(
+        n,
+        m,
+        desk,
+        desks,
+        durations,
+        releases,
+        dues,
+        befores,
+        afters,
+        handovers,
+        buffer,
+    )
+}
+
+// THE BLOCK SHEET: takes every file, every desk of one byte and every lent buffer, and answers or refuses by a number on
+// the list.
+pub fn block_sheet(file: &[u8], desk: u8, buffer: &mut [u8]) -> BlockAnswer
+    ensures { λ r. ⌜ BlockPromise (now (file .entry)) desk (now (buffer .entry)) r (now (buffer .exit)) ⌝ }
+{
+    let mut desks = [0u8; 256];
+    let mut durations = [0u16; 256];
+    let mut releases = [0u32; 256];
+    let mut dues = [0u32; 256];
+    let mut befores = [0u16; 1024];
+    let mut afters = [0u16; 1024];
+    let mut handovers = [0u16; 1024];
+    let judged = judge_file(
+        file,
+        &mut desks,
+        &mut durations,
+        &mut releases,
+        &mut dues,
+        &mut befores,
+        &mut afters,
+        &mut handovers,
+    );
+    match judged {
+        Read::Refused(refusal) => refused(refusal),
+        Read::Job { pieces, links } => sheet_accepted(
+            pieces,
+            links,
+            desk,
+            &desks,
+            &durations,
+            &releases,
+            &dues,
+            &befores,
+            &afters,
+            &handovers,
+            buffer,
+        ),
+    }
+}
