@@ -23,14 +23,14 @@ enum {
     DESK_MOST_PIECES = 256,      /* in one file */
     DESK_MOST_LINKS = 1024,      /* in one file */
     DESK_DECIDING = 20496,       /* these first bytes of a file decide; nothing behind them counts */
-    DESK_ROOM_FOR_A_PIECE = 48,  /* bytes of buffer that desk_plan asks for each piece of the file */
+    DESK_ROOM_FOR_A_PIECE = 48,  /* bytes of buffer that plan and sheet ask for each piece of the file */
     DESK_ROOM = 12288,           /* bytes of buffer that are enough for every file */
     DESK_LISTING_ROOM = 131072   /* bytes that desk_listing asks for */
 };
 
 /*
  * The refusals. Whole records are judged in file order, each for 2, 3, 4, 5, 6, 7, 9, 10, 8 in that order;
- * then come 1, 11, 12. The first that holds is the refusal. Records count from 0. A refused call has zero
+ * then come 1, 11, 13, 12. The first that holds is the refusal. Records count from 0. A refused call has zero
  * in every number of its answer but the first two, and touches no byte of the buffer.
  */
 enum {
@@ -46,18 +46,22 @@ enum {
     DESK_NO_SUCH_PIECE = 9,       /* a link names a number not below the count of pieces read before it */
     DESK_HANDOVER = 10,           /* above 480 */
     DESK_RING = 11,               /* a piece leads by links back to itself; place: the lowest such piece */
-    DESK_BUFFER_TOO_SHORT = 12    /* shorter than 48 bytes times the pieces of the file; place 0 */
+    DESK_BUFFER_TOO_SHORT = 12,   /* shorter than 48 bytes times the pieces of the file; place 0 */
+    DESK_ASKED_ABOVE_31 = 13      /* block sheet only; place 0 */
 };
 
-/* Places in the answer of desk_plan. */
+/* Places in the answer of desk_plan, and of desk_blocks. */
 enum { DESK_NUMBER, DESK_PLACE, DESK_PIECES, DESK_RUNS, DESK_END, DESK_WORST, DESK_PLAN_ANSWER };
+enum { DESK_SHEET_BLOCKS = 2, DESK_SHEET_RUNS, DESK_SHEET_WORST, DESK_SHEET_ANSWER };
 
 /*
- * The first byte of the records that the calls write. Byte 1 is the desk, 2-3 the piece, then three numbers of four bytes, little-endian:
+ * The first byte of the records that the calls write. Byte 1 is the desk, 2-3 the piece (of a block: how many
+ * pieces it has), then three numbers of four bytes, little-endian:
  *   result: start, finish (not worked), latest moment (signed, two's complement)
  *   run:    from, until (not worked), zero
+ *   block:  from, end (not worked), zero
  */
-enum { DESK_RESULT_RECORD = 17, DESK_RUN_RECORD = 18 };
+enum { DESK_RESULT_RECORD = 17, DESK_RUN_RECORD = 18, DESK_BLOCK_RECORD = 19 };
 
 /*
  * Plans every desk of a job file. The buffer gets a result record for each piece by number, then the run
@@ -67,6 +71,15 @@ enum { DESK_RESULT_RECORD = 17, DESK_RUN_RECORD = 18 };
  */
 void desk_plan(const uint8_t *file, size_t file_len, uint8_t *buffer, size_t buffer_len,
                int64_t answer[DESK_PLAN_ANSWER]);
+
+/*
+ * The block sheet of one desk. The buffer gets a block record for each block of the first cutting by time,
+ * then the run records of the block method by time: 16 * (blocks + runs) bytes; the bytes behind them stay.
+ * It asks the same room as desk_plan, whatever the desk has.
+ * Answer: number and place, blocks, runs, worst lateness on this desk; all zero for a desk without pieces.
+ */
+void desk_blocks(const uint8_t *file, size_t file_len, uint8_t desk, uint8_t *buffer, size_t buffer_len,
+                 int64_t answer[DESK_SHEET_ANSWER]);
 
 /*
  * The runs of one desk out of the records of a plan, as a stretch of them: stretch[0] is its first byte and

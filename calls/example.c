@@ -1,6 +1,6 @@
 /*
- * A program that uses the planner from C. It plans the first sheet of the rules page, shows one desk's runs,
- * and then what a refused file gives. What it prints is stored in example.expected.
+ * A program that uses the planner from C. It plans the first sheet of the rules page, shows one desk's runs
+ * and block sheet, and then what a refused file gives. What it prints is stored in example.expected.
  */
 #include <inttypes.h>
 #include <stdio.h>
@@ -36,6 +36,9 @@ static void print_record(const uint8_t *record) {
     case DESK_RUN_RECORD:
         printf("run on desk %u: piece %u, %" PRIu32 " to %" PRIu32 "\n", desk, number, first, second);
         break;
+    case DESK_BLOCK_RECORD:
+        printf("block on desk %u: %u pieces, %" PRIu32 " to %" PRIu32 "\n", desk, number, first, second);
+        break;
     }
 }
 
@@ -46,7 +49,7 @@ static void print_records(const uint8_t *records, size_t length) {
 int main(void) {
     static uint8_t buffer[DESK_ROOM];
     static const uint8_t zeros[17] = {0};
-    int64_t plan[DESK_PLAN_ANSWER];
+    int64_t plan[DESK_PLAN_ANSWER], sheet[DESK_SHEET_ANSWER];
     uint64_t stretch[2];
 
     desk_plan(p1, sizeof p1, buffer, sizeof buffer, plan);
@@ -58,6 +61,11 @@ int main(void) {
     desk_runs(buffer, written, 1, stretch);
     printf("desk 1 has bytes %" PRIu64 " to %" PRIu64 " of the plan\n", stretch[0], stretch[1]);
     print_records(buffer + stretch[0], (size_t)(stretch[1] - stretch[0]));
+
+    desk_blocks(p1, sizeof p1, 0, buffer, sizeof buffer, sheet);
+    printf("sheet of desk 0: %" PRId64 " blocks, %" PRId64 " runs, worst lateness %" PRId64 "\n",
+           sheet[DESK_SHEET_BLOCKS], sheet[DESK_SHEET_RUNS], sheet[DESK_SHEET_WORST]);
+    print_records(buffer, DESK_RECORD * (size_t)(sheet[DESK_SHEET_BLOCKS] + sheet[DESK_SHEET_RUNS]));
 
     desk_plan(zeros, sizeof zeros, buffer, sizeof buffer, plan);
     printf("17 zero bytes: refused %" PRId64 " at %" PRId64 "\n", plan[DESK_NUMBER], plan[DESK_PLACE]);

@@ -25,7 +25,6 @@ impl Side {
 #[derive(Clone, Copy, Debug, PartialEq, Eq)]
 pub enum Call {
     Plan,
-    #[cfg(feature = "sheet")]
     Sheet(u8),
     Runs(u8),
 }
@@ -34,7 +33,6 @@ impl Call {
     pub fn name(self) -> &'static str {
         match self {
             Call::Plan => "plan",
-            #[cfg(feature = "sheet")]
             Call::Sheet(_) => "sheet",
             Call::Runs(_) => "runs",
         }
@@ -59,9 +57,7 @@ impl Task {
         match (self.call, side) {
             (Call::Plan, Side::Proved) => of_plan(desk::plan(input, buffer)),
             (Call::Plan, Side::Plain) => of_plan(fast::plan(input, buffer)),
-            #[cfg(feature = "sheet")]
             (Call::Sheet(desk), Side::Proved) => of_sheet(desk::blocks(input, desk, buffer)),
-            #[cfg(feature = "sheet")]
             (Call::Sheet(desk), Side::Plain) => of_sheet(fast::blocks(input, desk, buffer)),
             (Call::Runs(desk), Side::Proved) => of_runs(input, desk::runs(input, desk)),
             (Call::Runs(desk), Side::Plain) => of_runs(input, fast::runs(input, desk)),
@@ -82,11 +78,7 @@ pub fn tasks() -> Vec<Task> {
         let written = desk::plan(&file, &mut buffer).written();
         let task = |call, input: &[u8]| Task { shape: name, what, call, input: input.to_vec() };
         let of_desk = desk.map(|desk| {
-            [
-                #[cfg(feature = "sheet")]
-                task(Call::Sheet(desk), &file),
-                task(Call::Runs(desk), &buffer[..written]),
-            ]
+            [task(Call::Sheet(desk), &file), task(Call::Runs(desk), &buffer[..written])]
         });
         [task(Call::Plan, &file)].into_iter().chain(of_desk.into_iter().flatten())
     };
@@ -98,7 +90,6 @@ fn of_plan(answer: desk::PlanAnswer) -> Answer {
     [number, place, pieces, runs, end, worst]
 }
 
-#[cfg(feature = "sheet")]
 fn of_sheet(answer: desk::BlockAnswer) -> Answer {
     let desk::BlockAnswer { number, place, blocks, runs, worst } = answer;
     [number, place, blocks, runs, worst, 0]

@@ -3,14 +3,13 @@
 
 use deskbench::fast;
 use deskbench::sides::tasks;
-use outside::calls::{Blocks, Calls, PROVED};
+use outside::calls::{Calls, PROVED};
 use outside::{Comparison, Tally};
 use second::make::{case, records};
 
 #[test]
 fn the_plain_program_answers_as_the_second_planner() {
-    let blocks = Some(fast::blocks as Blocks);
-    let calls = Calls { plan: fast::plan, blocks, runs: fast::runs, ..PROVED };
+    let calls = Calls { plan: fast::plan, blocks: fast::blocks, runs: fast::runs, ..PROVED };
     let mut comparison = Comparison::new(calls);
     let mut tally = Tally::default();
     for index in 0..20_000 {

@@ -14,17 +14,11 @@ pub type Listing = for<'a> fn(&[u8], &'a mut Text) -> &'a [u8];
 #[derive(Clone, Copy)]
 pub struct Calls {
     pub plan: Plan,
-    /// Where the library has it.
-    pub blocks: Option<Blocks>,
+    pub blocks: Blocks,
     pub runs: Runs,
     pub listing: Listing,
 }
 
-#[cfg(feature = "sheet")]
-const BLOCKS: Option<Blocks> = Some(desk::blocks);
-#[cfg(not(feature = "sheet"))]
-const BLOCKS: Option<Blocks> = None;
-
 /// The calls of the proved library.
 pub const PROVED: Calls =
-    Calls { plan: desk::plan, blocks: BLOCKS, runs: desk::runs, listing: desk::listing };
+    Calls { plan: desk::plan, blocks: desk::blocks, runs: desk::runs, listing: desk::listing };

@@ -72,7 +72,7 @@ impl Comparison {
         Ok(expected)
     }
 
-    /// Gives 1 for a sheet with blocks, where there is the call.
+    /// Gives 1 for a sheet with blocks.
     fn sheet(
         &self,
         by: &Expected,
@@ -80,11 +80,10 @@ impl Comparison {
         desk: u8,
         buffer: &[u8],
     ) -> Result<u64, Difference> {
-        let Some(blocks) = self.calls.blocks else { return Ok(0) };
         let call = format!("block sheet of desk {desk} with a buffer of {} bytes", buffer.len());
         let (mut expected, mut got) = (buffer.to_vec(), Lent::new(buffer));
         let answer = by.blocks(desk, &mut expected);
-        let proved = blocks(file.part(), desk, got.part_mut());
+        let proved = (self.calls.blocks)(file.part(), desk, got.part_mut());
         Difference::check_bytes(&call, &expected, got.part())?;
         Difference::check(format!("{call}: bytes around it kept"), &true, &got.kept_around())?;
         Difference::check(call, &answer, &proved)?;

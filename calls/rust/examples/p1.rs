@@ -1,7 +1,7 @@
 //! The twin of `example.c` in the folder above: it plans the first sheet of the rules page, shows one desk's
-//! runs, and then what a refused file gives. Both print what `example.expected` stores.
+//! runs and block sheet, and then what a refused file gives. Both print what `example.expected` stores.
 
-use desk::{plan, records, runs, Record, ROOM, ROOM_FOR_A_PIECE};
+use desk::{blocks, plan, records, runs, Record, ROOM, ROOM_FOR_A_PIECE};
 
 /// Three pieces and a link: 0/4/0/20, 0/2/1/5, 1/3/0/12; 0>2+2.
 const P1: [[u8; 16]; 4] = [
@@ -28,6 +28,13 @@ fn main() {
     let first = of_desk.as_ptr() as usize - written.as_ptr() as usize;
     println!("desk 1 has bytes {first} to {} of the plan", first + of_desk.len());
     print_records(of_desk);
+
+    let sheet = blocks(&file, 0, &mut buffer);
+    println!(
+        "sheet of desk 0: {} blocks, {} runs, worst lateness {}",
+        sheet.blocks, sheet.runs, sheet.worst,
+    );
+    print_records(&buffer[..sheet.written()]);
 
     if let Some(refusal) = plan(&[0; 17], &mut buffer).refusal() {
         println!("17 zero bytes: refused {} at {}", refusal.number, refusal.place);

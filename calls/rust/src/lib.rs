@@ -32,7 +32,6 @@ pub fn plan(file: &[u8], buffer: &mut [u8]) -> PlanAnswer {
 
 /// Works out the block sheet of one desk. The buffer gets a record for each block by time, then the run
 /// records of the block method by time; the bytes behind them stay. It asks the same room as `plan`.
-#[cfg(feature = "sheet")]
 pub fn blocks(file: &[u8], desk: u8, buffer: &mut [u8]) -> BlockAnswer {
     let [number, place, blocks, runs, worst] = library::blocks(file, desk, buffer);
     BlockAnswer { number, place, blocks, runs, worst }

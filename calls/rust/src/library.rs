@@ -11,7 +11,6 @@
 
 extern "C" {
     fn desk_plan(file: *const u8, length: usize, buffer: *mut u8, room: usize, answer: *mut i64);
-    #[cfg(feature = "sheet")]
     fn desk_blocks(
         file: *const u8,
         length: usize,
@@ -41,7 +40,6 @@ pub fn plan(file: &[u8], buffer: &mut [u8]) -> [i64; 6] {
 }
 
 /// Number, place, blocks, runs and worst lateness on the desk.
-#[cfg(feature = "sheet")]
 pub fn blocks(file: &[u8], desk: u8, buffer: &mut [u8]) -> [i64; 5] {
     let mut answer = [0; 5];
     // Sound for the reasons at the head; the answer has the five numbers that the call writes.

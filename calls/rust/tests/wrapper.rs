@@ -1,9 +1,7 @@
 //! What the safe functions add to the library: parts of the caller's own slice, records as values, and slices
 //! without bytes. What the library itself answers is tested in the package `outside`.
 
-#[cfg(feature = "sheet")]
-use desk::{blocks, BlockAnswer};
-use desk::{listing, plan, records, runs, PlanAnswer, Record, Refusal};
+use desk::{blocks, listing, plan, records, runs, BlockAnswer, PlanAnswer, Record, Refusal};
 use desk::{LISTING_ROOM, ROOM};
 
 fn piece(desk: u8, duration: u8, release: u8, due: u8) -> Vec<u8> {
@@ -19,11 +17,8 @@ fn p1() -> Vec<u8> {
 #[test]
 fn slices_without_bytes() {
     assert_eq!(plan(&[], &mut []), PlanAnswer::default());
-    #[cfg(feature = "sheet")]
-    {
-        assert_eq!(blocks(&[], 31, &mut []), BlockAnswer::default());
-        assert_eq!(blocks(&[], 32, &mut []).refusal(), Some(Refusal { number: 13, place: 0 }));
-    }
+    assert_eq!(blocks(&[], 31, &mut []), BlockAnswer::default());
+    assert_eq!(blocks(&[], 32, &mut []).refusal(), Some(Refusal { number: 13, place: 0 }));
     assert_eq!(runs(&[], 0), []);
     let short = plan(&p1(), &mut []);
     assert_eq!(short.refusal(), Some(Refusal { number: 12, place: 0 }));
@@ -49,14 +44,11 @@ fn records_as_values() {
     });
     // The marked bytes behind the records are no records, so the whole buffer gives the same.
     assert!(records(&buffer).eq(results.into_iter().chain(runs)));
-    #[cfg(feature = "sheet")]
-    {
-        let answer = blocks(&file, 0, &mut buffer);
-        // The raised ready moment of piece 1 is 3, so two blocks touch there.
-        let blocks = [(1, 0, 3), (1, 3, 8)];
-        let blocks = blocks.map(|(pieces, from, end)| Record::Block { desk: 0, pieces, from, end });
-        assert!(records(&buffer[..answer.written()]).eq(blocks.into_iter().chain(runs)));
-    }
+    let answer = blocks(&file, 0, &mut buffer);
+    // The raised ready moment of piece 1 is 3, so two blocks touch there.
+    let blocks = [(1, 0, 3), (1, 3, 8)];
+    let blocks = blocks.map(|(pieces, from, end)| Record::Block { desk: 0, pieces, from, end });
+    assert!(records(&buffer[..answer.written()]).eq(blocks.into_iter().chain(runs)));
 }
 
 #[test]

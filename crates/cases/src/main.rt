@@ -1,10 +1,12 @@
-// The boundary cases of the rules page ("Run by a program"), each on the call that makes plans: one line for each, with what
-// was tried and how it was answered. What they must print stands in `stdout`, written by hand from the page.
+// The boundary cases of the rules page ("Run by a program"), on the calls for plans, listings and block sheets: one line for
+// each, with what was tried and how it was answered. What they must print stands in `stdout`, written by hand from the page.
 use deskplan_text::write_listing;
 use libc::STDOUT_FILENO;
 use planner::plan::plan;
 use records::put::put_record;
+use rules::BlockAnswer;
 use rules::PlanAnswer;
+use sheets::sheet::block_sheet;
 ghost use Prim.Native.Nat.{_+_, _*_, _≤_};
 ghost use mathlib.Core.Path.{_≡_};
 ghost use lib.ListN.{length};
@@ -110,6 +112,39 @@ fn try_links(name: &[u8], value: u64, m: usize, handover: u16)
     try_links_in(&mut file, name, value, m, handover);
 }
 
+// How the block sheet was answered.
+fn print_sheet(answer: BlockAnswer) {
+    if answer.number == 0 {
+        print_field(b" accepted: blocks ", answer.blocks as u64);
+        print_field(b" runs ", answer.runs as u64);
+    } else {
+        print_field(b" refused ", answer.number as u64);
+        print_field(b" at ", answer.place);
+    }
+}
+
+// The block sheet of a desk, of a file of one piece on desk 31.
+fn try_sheet(desk: u8, buffer: &mut [u8]) {
+    let mut file = [0u8; 16];
+    put_record(&mut file, 0, 1, 31, 1, 0, 0, 0);
+    let answer = block_sheet(&file, desk, buffer);
+    print_field(b"sheet of desk ", desk as u64);
+    print_field(b" in a buffer of ", buffer.len() as u64);
+    print_sheet(answer);
+    io::write_all(STDOUT_FILENO, b"\n");
+}
+
+fn try_sheets() {
+    let mut enough = [0u8; 48];
+    let mut short = [0u8; 47];
+    try_sheet(31, &mut enough);
+    try_sheet(31, &mut short);
+    try_sheet(0, &mut enough);
+    try_sheet(0, &mut short);
+    try_sheet(32, &mut enough);
+    try_sheet(32, &mut short);
+}
+
 fn main() {
     try_piece(b"duration ", 960, 0, 960, 0, 0);
     try_piece(b"duration ", 961, 0, 961, 0, 0);
@@ -130,4 +165,5 @@ fn main() {
     try_pieces(b"256 pieces in a buffer of ", 12287, 256, 12287);
     try_pieces(b"1 piece in a buffer of ", 48, 1, 48);
     try_pieces(b"1 piece in a buffer of ", 47, 1, 47);
+    try_sheets();
 }

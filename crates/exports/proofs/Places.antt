@@ -14,9 +14,11 @@ use Rattle.rules.specs.Reading.{readJob}
 use Rattle.rules.specs.Rings.{linked, ringPiece}
 use Rattle.rules.specs.Judgement.{thenJudge, unlessRing, unlessNoDesk, unlessShort, fileOutcome, planOutcome, blockOutcome}
 use Rattle.rules.specs.Plan.{planNumbers, planAnswerOf, planAnswer}
+use Rattle.rules.specs.BlockSheet.{blockNumbers, blockAnswerOf, blockAnswer}
 use Rattle.rules.specs.declared.Refusal.{Refusal}
 use Rattle.rules.specs.declared.PlanAnswer.{PlanAnswer}
-use Rattle.exports.specs.Calls.{planRow}
+use Rattle.rules.specs.declared.BlockAnswer.{BlockAnswer}
+use Rattle.exports.specs.Calls.{planRow, sheetRow}
 use Rattle.laws.proofs.Words.{by-test}
 use Rattle.laws.proofs.Rings.{ring-found}
 use Rattle.laws.proofs.Reading.{job-sound}
@@ -77,8 +79,24 @@ plan-place file buffer = go (planOutcome file (length buffer))
     go (refused r) h = h
     go (accepted J) h = h
 
+pub sheet-place : (file : List ℕ) (d : ℕ) (buffer : List ℕ) → blockAnswer file d buffer .place ≤ length file / 16 + 256
+unfolding blockAnswer blockOutcome placeOf blockAnswerOf blockNumbers
+sheet-place file d buffer = go (blockOutcome file d (length buffer))
+    (near-then file (thenJudge (fileOutcome file) (unlessNoDesk d)) (unlessShort (length buffer))
+    (near-then file (fileOutcome file) (unlessNoDesk d) (near-file file) (λ J e. near-desk file d J))
+    (λ J e. near-short file (length buffer) J))
+  where
+    go : (o : Outcome) → Near file o → blockAnswerOf o d .place ≤ length file / 16 + 256
+    go (refused r) h = h
+    go (accepted J) h = h
+
 -- The numbers of an answer in a row.
-pub in-row : (a : PlanAnswer) (number place pieces runs end worst : ℤ) → number ≡ pos (a .number) → place ≡ pos (a .place)
+pub in-plan-row : (a : PlanAnswer) (number place pieces runs end worst : ℤ) → number ≡ pos (a .number) → place ≡ pos (a .place)
     → pieces ≡ pos (a .pieces) → runs ≡ pos (a .runs) → end ≡ pos (a .end) → worst ≡ a .worst
     → number ∷ place ∷ pieces ∷ runs ∷ end ∷ worst ∷ [] ≡ planRow a
-in-row a number place pieces runs end worst p q r s t u = rw (p, q, r, s, t, u)
+in-plan-row a number place pieces runs end worst p q r s t u = rw (p, q, r, s, t, u)
+
+pub in-sheet-row : (a : BlockAnswer) (number place blocks runs worst : ℤ) → number ≡ pos (a .number) → place ≡ pos (a .place)
+    → blocks ≡ pos (a .blocks) → runs ≡ pos (a .runs) → worst ≡ a .worst
+    → number ∷ place ∷ blocks ∷ runs ∷ worst ∷ [] ≡ sheetRow a
+in-sheet-row a number place blocks runs worst p q r s t = rw (p, q, r, s, t)

@@ -4,8 +4,10 @@ use mathlib.Core.List.{List, [], _∷_}
 use mathlib.Core.Path.{_≡_}
 use lib.IntN.{ℤ, pos}
 use Rattle.rules.specs.Plan.{planAnswer, planBuffer}
+use Rattle.rules.specs.BlockSheet.{blockAnswer, blockBuffer}
 use Rattle.rules.specs.DeskRuns.{stretchFrom, stretchEnd}
 use Rattle.rules.specs.declared.PlanAnswer.{PlanAnswer}
+use Rattle.rules.specs.declared.BlockAnswer.{BlockAnswer}
 use Rattle.deskplan_text.specs.Promise.{listedCount, listedText}
 
 -- number, place, pieces, runs, end, worst
@@ -16,6 +18,14 @@ planRow a =
 pub record PlanCall (file buffer after : List ℕ) (row : List ℤ) : Type 0 where
   pub answered : row ≡ planRow (planAnswer file buffer)
   pub left-there : after ≡ planBuffer file buffer
+
+-- number, place, blocks, runs, worst
+abbrev pub sheetRow : BlockAnswer → List ℤ
+sheetRow a = pos (a .number) ∷ pos (a .place) ∷ pos (a .blocks) ∷ pos (a .runs) ∷ a .worst ∷ []
+
+pub record SheetCall (file : List ℕ) (desk : ℕ) (buffer after : List ℕ) (row : List ℤ) : Type 0 where
+  pub answered : row ≡ sheetRow (blockAnswer file desk buffer)
+  pub left-there : after ≡ blockBuffer file desk buffer
 
 -- first byte, byte after the last
 pub record RunsCall (records : List ℕ) (desk : ℕ) (row : List ℕ) : Type 0 where

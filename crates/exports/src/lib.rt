@@ -3,7 +3,7 @@
 ghost use mathlib.Core.Path.{_≡_};
 ghost use Prim.Native.Nat.{_<_, _^_};
 ghost use lib.IntN.{pos};
-ghost use Rattle.exports.specs.Calls.{PlanCall, RunsCall, ListingCall};
+ghost use Rattle.exports.specs.Calls.{PlanCall, SheetCall, RunsCall, ListingCall};
 
 // Numbers of an answer as signed numbers of 64 bits.
 fn small(x: u8) -> i64
@@ -43,6 +43,21 @@ pub extern "C" fn desk_plan(file: &[u8], buffer: &mut [u8], answer: &mut [i64; 6
         count(a.pieces),
         count(a.runs),
         count(a.end),
+        signed(a.worst),
+    ];
+}
+
+// number, place, blocks, runs, worst
+#[no_mangle]
+pub extern "C" fn desk_blocks(file: &[u8], desk: u8, buffer: &mut [u8], answer: &mut [i64; 5])
+    ensures { λ _. ⌜ SheetCall (now (file .entry)) desk (now (buffer .entry)) (now (buffer .exit)) (now (answer .exit)) ⌝ }
+{
+    let a = sheets::sheet::block_sheet(file, desk, buffer);
+    *answer = [
+        small(a.number),
+        place(a.place),
+        count(a.blocks),
+        count(a.runs),
         signed(a.worst),
     ];
 }

@@ -1,13 +1,9 @@
 //! Every bound of the page from both sides: durations, moments, handovers, desks, counts and the length of
 //! the lent buffer.
 
-use crate::notation::{accepted, link, piece, plan_answer, planned, refusal};
-#[cfg(feature = "sheet")]
-use crate::notation::{block_answer, sheet};
-use crate::notation::{result, run, MARK};
-#[cfg(feature = "sheet")]
-use desk::BlockAnswer;
-use desk::PlanAnswer;
+use crate::notation::{accepted, block_answer, link, piece, plan_answer, planned, refusal};
+use crate::notation::{result, run, sheet, MARK};
+use desk::{BlockAnswer, PlanAnswer};
 
 #[test]
 fn durations() {
@@ -42,18 +38,12 @@ fn handovers() {
 fn desks() {
     let on_the_last = piece(31, 1, 0, 0);
     assert_eq!(planned(&on_the_last).1, [result(31, 0, 0, 1, 0), run(31, 0, 0, 1)]);
-    #[cfg(feature = "sheet")]
-    {
-        assert_eq!(sheet(&on_the_last, 31).0, block_answer(1, 1, 1));
-        assert_eq!(sheet(&on_the_last, 0).0, block_answer(0, 0, 0));
-    }
+    assert_eq!(sheet(&on_the_last, 31).0, block_answer(1, 1, 1));
+    assert_eq!(sheet(&on_the_last, 0).0, block_answer(0, 0, 0));
     for desk in [32, 33, 128, 255] {
         assert_eq!(refusal(&piece(desk, 1, 0, 0)), (5, 0));
-        #[cfg(feature = "sheet")]
-        {
-            let refused = BlockAnswer { number: 13, ..BlockAnswer::default() };
-            assert_eq!(sheet(&on_the_last, desk), (refused, vec![]));
-        }
+        let refused = BlockAnswer { number: 13, ..BlockAnswer::default() };
+        assert_eq!(sheet(&on_the_last, desk), (refused, vec![]));
     }
 }
 
@@ -94,24 +84,18 @@ fn buffers_of_just_the_room_and_one_byte_less() {
         let file = piece(3, 2, 0, 0).repeat(count);
         let mut buffer = vec![MARK; 48 * count];
         assert_eq!(desk::plan(&file, &mut buffer).number, 0);
-        #[cfg(feature = "sheet")]
-        {
-            assert_eq!(desk::blocks(&file, 3, &mut buffer).number, 0);
-            assert_eq!(desk::blocks(&file, 4, &mut buffer).number, 0);
-        }
+        assert_eq!(desk::blocks(&file, 3, &mut buffer).number, 0);
+        assert_eq!(desk::blocks(&file, 4, &mut buffer).number, 0);
         let mut short = vec![MARK; 48 * count - 1];
         assert_eq!(
             desk::plan(&file, &mut short),
             PlanAnswer { number: 12, ..PlanAnswer::default() }
         );
+        let refused = BlockAnswer { number: 12, ..BlockAnswer::default() };
         // The block sheet asks room for all pieces of the file, also for a desk that has none.
-        #[cfg(feature = "sheet")]
-        {
-            let refused = BlockAnswer { number: 12, ..BlockAnswer::default() };
-            assert_eq!(desk::blocks(&file, 3, &mut short), refused);
-            assert_eq!(desk::blocks(&file, 4, &mut short), refused);
-            assert_eq!(desk::blocks(&file, 32, &mut short).number, 13);
-        }
+        assert_eq!(desk::blocks(&file, 3, &mut short), refused);
+        assert_eq!(desk::blocks(&file, 4, &mut short), refused);
+        assert_eq!(desk::blocks(&file, 32, &mut short).number, 13);
         assert!(short.iter().all(|&byte| byte == MARK), "a refused call wrote");
     }
 }

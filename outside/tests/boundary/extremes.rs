@@ -1,9 +1,8 @@
 //! The extreme plans that the page names: the last moment there can be, the lowest latest moment, the most
 //! runs, and a handover that holds a piece back while its desk works on.
 
-#[cfg(feature = "sheet")]
-use crate::notation::{block, block_answer, sheet};
-use crate::notation::{file, link, piece, plan_answer, planned, result, run};
+use crate::notation::{block, block_answer, file, link, piece, plan_answer, planned};
+use crate::notation::{result, run, sheet};
 
 /// Piece 0 is released last, and all others follow it in a chain over two desks.
 #[test]
@@ -17,12 +16,9 @@ fn the_last_moment_and_the_lowest_latest_moment() {
     assert_eq!(rows[255], result(1, 255, 407_200, 408_160, 0));
     assert_eq!(rows[256], run(0, 0, 40_000, 40_960));
     assert_eq!(rows[511], run(1, 255, 407_200, 408_160));
-    #[cfg(feature = "sheet")]
-    {
-        let (answer, rows) = sheet(&file, 1);
-        assert_eq!(answer, block_answer(128, 128, 408_160));
-        assert_eq!(rows[127], block(1, 1, 407_200, 408_160));
-    }
+    let (answer, rows) = sheet(&file, 1);
+    assert_eq!(answer, block_answer(128, 128, 408_160));
+    assert_eq!(rows[127], block(1, 1, 407_200, 408_160));
 }
 
 /// The same chain in falling numbers: nothing may rest on the numbering.
@@ -47,17 +43,13 @@ fn the_most_runs() {
     assert_eq!(rows[256..258], [run(9, 0, 0, 1), run(9, 1, 1, 2)]);
     assert_eq!(rows[511..513], [run(9, 255, 255, 257), run(9, 254, 257, 258)]);
     assert_eq!(rows[766], run(9, 0, 511, 512));
-    #[cfg(feature = "sheet")]
-    {
-        let (answer, of_sheet) = sheet(&file, 9);
-        assert_eq!(answer, block_answer(1, 511, 512 - 40_000));
-        assert_eq!(of_sheet[0], block(9, 256, 0, 512));
-        assert_eq!(of_sheet[1..], rows[256..]);
-    }
+    let (answer, of_sheet) = sheet(&file, 9);
+    assert_eq!(answer, block_answer(1, 511, 512 - 40_000));
+    assert_eq!(of_sheet[0], block(9, 256, 0, 512));
+    assert_eq!(of_sheet[1..], rows[256..]);
     // The same in a buffer of just the room.
     let mut buffer = vec![0; 48 * 256];
     assert_eq!(desk::plan(&file, &mut buffer).runs, 511);
-    #[cfg(feature = "sheet")]
     assert_eq!(desk::blocks(&file, 9, &mut buffer).runs, 511);
 }
 
@@ -70,7 +62,6 @@ fn all_desks_at_work() {
     assert_eq!(rows[33], result(1, 33, 3, 6, 24));
     assert_eq!(rows[256 + 8], run(1, 1, 0, 3));
     assert_eq!(rows[511], run(31, 255, 21, 24));
-    #[cfg(feature = "sheet")]
     assert_eq!(sheet(&file, 31).0, block_answer(1, 8, 0));
 }
 

@@ -1,9 +1,7 @@
 //! Short ways to write files and records by hand, and calls whose buffers are looked at to the last byte.
 //! Each call gets a marked buffer; all bytes behind the records must keep their mark.
 
-#[cfg(feature = "sheet")]
-use desk::BlockAnswer;
-use desk::PlanAnswer;
+use desk::{BlockAnswer, PlanAnswer};
 
 pub const MARK: u8 = 0xA5;
 
@@ -46,7 +44,6 @@ pub fn run(desk: u8, piece: u16, from: i32, until: i32) -> Row {
     (18, desk, piece, from, until, 0)
 }
 
-#[cfg(feature = "sheet")]
 pub fn block(desk: u8, pieces: u16, from: i32, end: i32) -> Row {
     (19, desk, pieces, from, end, 0)
 }
@@ -58,7 +55,6 @@ pub fn planned(file: &[u8]) -> (PlanAnswer, Vec<Row>) {
     (answer, rows(&buffer, answer.pieces + answer.runs))
 }
 
-#[cfg(feature = "sheet")]
 pub fn sheet(file: &[u8], desk: u8) -> (BlockAnswer, Vec<Row>) {
     let mut buffer = vec![MARK; 48 * 256 + 5];
     let answer = desk::blocks(file, desk, &mut buffer);
@@ -72,7 +68,6 @@ pub fn refusal(file: &[u8]) -> (i64, i64) {
     assert_eq!(answer, PlanAnswer { number, place, ..PlanAnswer::default() });
     assert_eq!(rows, []);
     // Judged before the desk asked for, so a desk above 31 gets the same refusal.
-    #[cfg(feature = "sheet")]
     for desk in [0, 31, 32, 255] {
         let (answer, rows) = sheet(file, desk);
         assert_eq!(answer, BlockAnswer { number, place, ..BlockAnswer::default() });
@@ -83,7 +78,6 @@ pub fn refusal(file: &[u8]) -> (i64, i64) {
 
 pub fn accepted(file: &[u8]) -> bool {
     let number = planned(file).0.number;
-    #[cfg(feature = "sheet")]
     assert_eq!(number, sheet(file, 0).0.number);
     number == 0
 }
@@ -92,7 +86,6 @@ pub fn plan_answer(pieces: i64, runs: i64, end: i64, worst: i64) -> PlanAnswer {
     PlanAnswer { number: 0, place: 0, pieces, runs, end, worst }
 }
 
-#[cfg(feature = "sheet")]
 pub fn block_answer(blocks: i64, runs: i64, worst: i64) -> BlockAnswer {
     BlockAnswer { number: 0, place: 0, blocks, runs, worst }
 }

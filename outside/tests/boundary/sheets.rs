@@ -1,9 +1,8 @@
 //! The ten sheets of the rules page, with the listing of the first. What the page leaves out of a sheet was
 //! worked out by hand.
 
-#[cfg(feature = "sheet")]
-use crate::notation::{block, block_answer, sheet};
-use crate::notation::{file, link, piece, plan_answer, planned, refusal, result, run};
+use crate::notation::{block, block_answer, file, link, piece, plan_answer, planned, refusal};
+use crate::notation::{result, run, sheet};
 use desk::{listing, LISTING_ROOM};
 
 #[test]
@@ -14,16 +13,13 @@ fn p1() {
     let (answer, rows) = planned(&file);
     assert_eq!(answer, plan_answer(3, 4, 11, -1));
     assert_eq!(rows, [&results[..], &runs].concat());
-    #[cfg(feature = "sheet")]
-    {
-        let (answer, rows) = sheet(&file, 0);
-        assert_eq!(answer, block_answer(1, 3, -2));
-        assert_eq!(rows, [&[block(0, 2, 0, 6)], &runs[..3]].concat());
-        let (answer, rows) = sheet(&file, 1);
-        assert_eq!(answer, block_answer(1, 1, -1));
-        assert_eq!(rows, [block(1, 1, 8, 11), runs[3]]);
-        assert_eq!(sheet(&file, 2), (block_answer(0, 0, 0), vec![]));
-    }
+    let (answer, rows) = sheet(&file, 0);
+    assert_eq!(answer, block_answer(1, 3, -2));
+    assert_eq!(rows, [&[block(0, 2, 0, 6)], &runs[..3]].concat());
+    let (answer, rows) = sheet(&file, 1);
+    assert_eq!(answer, block_answer(1, 1, -1));
+    assert_eq!(rows, [block(1, 1, 8, 11), runs[3]]);
+    assert_eq!(sheet(&file, 2), (block_answer(0, 0, 0), vec![]));
 }
 
 #[test]
@@ -49,7 +45,6 @@ fn the_listing_of_p1() {
 #[test]
 fn p2() {
     assert_eq!(planned(&[]), (plan_answer(0, 0, 0, 0), vec![]));
-    #[cfg(feature = "sheet")]
     assert_eq!(sheet(&[], 0), (block_answer(0, 0, 0), vec![]));
 }
 
@@ -67,7 +62,6 @@ fn p4() {
     let file = file(&[(0, 1, 1, 9), (0, 3, 0, 9)], &[]);
     let runs = [run(0, 1, 0, 1), run(0, 0, 1, 2), run(0, 1, 2, 4)];
     assert_eq!(planned(&file).1[2..], runs);
-    #[cfg(feature = "sheet")]
     assert_eq!(sheet(&file, 0).1, [&[block(0, 2, 0, 4)], &runs[..]].concat());
 }
 
@@ -76,12 +70,9 @@ fn p5() {
     let file = file(&[(0, 2, 0, 9), (0, 1, 2, 9)], &[]);
     let runs = [run(0, 0, 0, 2), run(0, 1, 2, 3)];
     assert_eq!(planned(&file).1[2..], runs);
-    #[cfg(feature = "sheet")]
-    {
-        let (answer, rows) = sheet(&file, 0);
-        assert_eq!(answer, block_answer(2, 2, -6));
-        assert_eq!(rows, [block(0, 1, 0, 2), block(0, 1, 2, 3), runs[0], runs[1]]);
-    }
+    let (answer, rows) = sheet(&file, 0);
+    assert_eq!(answer, block_answer(2, 2, -6));
+    assert_eq!(rows, [block(0, 1, 0, 2), block(0, 1, 2, 3), runs[0], runs[1]]);
 }
 
 #[test]
@@ -99,12 +90,9 @@ fn p7() {
     let file = file(&pieces, &[(0, 1, 0), (1, 2, 1)]);
     let runs = [run(0, 0, 0, 2), run(0, 3, 2, 4), run(0, 2, 4, 6), run(0, 3, 6, 9)];
     assert_eq!(planned(&file).1[4..8], runs);
-    #[cfg(feature = "sheet")]
-    {
-        let (answer, rows) = sheet(&file, 0);
-        assert_eq!(answer, block_answer(1, 4, -14));
-        assert_eq!(rows, [&[block(0, 3, 0, 9)], &runs[..]].concat());
-    }
+    let (answer, rows) = sheet(&file, 0);
+    assert_eq!(answer, block_answer(1, 4, -14));
+    assert_eq!(rows, [&[block(0, 3, 0, 9)], &runs[..]].concat());
 }
 
 #[test]

@@ -2,12 +2,8 @@
 //! those that the rules page says must not pass.
 
 use crate::compared;
-#[cfg(feature = "sheet")]
-use desk::BlockAnswer;
-use desk::PlanAnswer;
-#[cfg(feature = "sheet")]
-use outside::calls::Blocks;
-use outside::calls::{Calls, Listing, Plan, Runs, PROVED};
+use desk::{BlockAnswer, PlanAnswer};
+use outside::calls::{Blocks, Calls, Listing, Plan, Runs, PROVED};
 
 #[test]
 fn the_proved_calls_pass() {
@@ -15,8 +11,7 @@ fn the_proved_calls_pass() {
     assert_eq!((tally.passed, tally.failed), (5_000, 0));
     assert!(tally.accepted() > 2_000, "{tally}");
     assert!((0..=11).all(|number| tally.by_number.contains_key(&number)), "{tally}");
-    assert!(tally.full > 10 && tally.stretches > 5_000, "{tally}");
-    assert!(PROVED.blocks.is_none() || tally.sheets > 5_000, "{tally}");
+    assert!(tally.full > 10 && tally.sheets > 5_000 && tally.stretches > 5_000, "{tally}");
 }
 
 #[test]
@@ -65,7 +60,6 @@ fn wrong_plans_are_found() {
 }
 
 #[test]
-#[cfg(feature = "sheet")]
 fn wrong_block_sheets_are_found() {
     let wrong: [Blocks; 4] = [
         // Has no desk without pieces.
@@ -93,7 +87,7 @@ fn wrong_block_sheets_are_found() {
         },
     ];
     for (place, blocks) in wrong.into_iter().enumerate() {
-        let calls = Calls { blocks: Some(blocks), ..PROVED };
+        let calls = Calls { blocks, ..PROVED };
         assert!(compared(calls, 7, 1_500).is_err(), "wrong sheet {place} passed");
     }
 }

@@ -4,7 +4,7 @@ use native.Mathlib.Omega.{arith}
 use mir.Syntax.{w32, w64}
 use mir.ValLaws.{toZ-ofZ}
 use Rattle.exports.specs.Calls.{planRow}
-use Rattle.exports.proofs.Places.{plan-place, in-row}
+use Rattle.exports.proofs.Places.{plan-place, in-plan-row}
 use borrow.Author.Needs.{needs}
 use Rattle.exports.proofs.desk_plan.Statement.{statement}
 use Rattle.exports.proofs.desk_plan.Tie as tie
@@ -24,8 +24,9 @@ small-requires c κs = search needs
 
 place-requires : tie.Need-place-requires
 place-requires c κs =
-    let a = c .before .before .before .before .before .before .before .args in
-    omega (arith, ap (λ x. x .place) (c .before .before .before .plan .ensures .answered), plan-place (a .file .now) (a .buffer .now))
+    let call = c .before .before .before in
+    let a = call .before .before .before .before .args in
+    omega (arith, ap (λ x. x .place) (call .plan .ensures .answered), plan-place (a .file .now) (a .buffer .now))
 
 count-requires : tie.Need-count-requires
 count-requires c κs = search needs
@@ -44,17 +45,25 @@ same-length c = search needs
 
 returns : tie.Need-returns
 returns c =
-    let promise = c .before .before .before .before .before .before .before .before .before .before .plan .ensures in
+    let worst = c .before in
+    let told = worst .before in
+    let end = told .before in
+    let runs = end .before in
+    let pieces = runs .before in
+    let place = pieces .before in
+    let number = place .before in
+    let call = number .before .before .before in
+    let promise = call .plan .ensures in
     record {
       left-there = promise .left-there;
-      answered = in-row (c .before .before .before .before .before .before .before .before .before .before .plan .result) _ _ _ _ _ _
-          (toZ-ofZ w64 (c .before .before .before .before .before .before .before .small .result) (record { sfits = c .before .before .before .before .before .before .before .small .ok }) ∙ c .before .before .before .before .before .before .before .small .ensures)
-          (toZ-ofZ w64 (c .before .before .before .before .before .before .place .result) (record { sfits = c .before .before .before .before .before .before .place .ok }) ∙ c .before .before .before .before .before .before .place .ensures)
-          (toZ-ofZ w64 (c .before .before .before .before .before .count .result) (record { sfits = c .before .before .before .before .before .count .ok }) ∙ c .before .before .before .before .before .count .ensures)
-          (toZ-ofZ w64 (c .before .before .before .before .count2 .result) (record { sfits = c .before .before .before .before .count2 .ok }) ∙ c .before .before .before .before .count2 .ensures)
-          (toZ-ofZ w64 (c .before .before .before .count3 .result) (record { sfits = c .before .before .before .count3 .ok }) ∙ c .before .before .before .count3 .ensures)
-          (toZ-ofZ w64 (c .before .signed .result) (record { sfits = c .before .signed .ok }) ∙ c .before .signed .ensures
-          ∙ toZ-ofZ w32 (c .before .before .before .before .before .before .before .before .before .before .plan .result .worst) (record { sfits = c .before .before .struct-told .given .1 .1 .1 .1 .1 .0 .1 }))
+      answered = in-plan-row (call .plan .result) _ _ _ _ _ _
+          (toZ-ofZ w64 (number .small .result) (record { sfits = number .small .ok }) ∙ number .small .ensures)
+          (toZ-ofZ w64 (place .place .result) (record { sfits = place .place .ok }) ∙ place .place .ensures)
+          (toZ-ofZ w64 (pieces .count .result) (record { sfits = pieces .count .ok }) ∙ pieces .count .ensures)
+          (toZ-ofZ w64 (runs .count2 .result) (record { sfits = runs .count2 .ok }) ∙ runs .count2 .ensures)
+          (toZ-ofZ w64 (end .count3 .result) (record { sfits = end .count3 .ok }) ∙ end .count3 .ensures)
+          (toZ-ofZ w64 (worst .signed .result) (record { sfits = worst .signed .ok }) ∙ worst .signed .ensures
+          ∙ toZ-ofZ w32 (call .plan .result .worst) (record { sfits = told .struct-told .given .1 .1 .1 .1 .1 .0 .1 }))
           ∙ ap planRow (promise .answered);
     }
 

@@ -50,12 +50,24 @@ put-runs-requires c κs =
 cast-t39 : tie.Need-cast-t39
 cast-t39 c =
     let f = c .before .before .before .before .before .before .before .before .before .before .before .before .before .before in
-    omega (arith, rows-few _ _ _ _ _ _ _ _ _ (f .fill-sheet .ensures), f .before .before .before .before .before .before .before .before .pre .0 .planable .few-pieces)
+    let filled = f .fill-sheet .ensures in
+    omega (
+      arith,
+      rows-few _ _ _ _ _ _ _ _ _ filled,
+      runs-few _ _ _ _ _ _ _ _ _ filled,
+      f .before .before .before .before .before .before .before .before .pre .0 .planable .few-pieces,
+    )
 
 cast-t40 : tie.Need-cast-t40
 cast-t40 c =
     let f = c .before .before .before .before .before .before .before .before .before .before .before .before .before .before in
-    omega (arith, runs-few _ _ _ _ _ _ _ _ _ (f .fill-sheet .ensures), f .before .before .before .before .before .before .before .before .pre .0 .planable .few-pieces)
+    let filled = f .fill-sheet .ensures in
+    omega (
+      arith,
+      rows-few _ _ _ _ _ _ _ _ _ filled,
+      runs-few _ _ _ _ _ _ _ _ _ filled,
+      f .before .before .before .before .before .before .before .before .pre .0 .planable .few-pieces,
+    )
 
 same-length : tie.Need-same-length
 same-length c = search needs
