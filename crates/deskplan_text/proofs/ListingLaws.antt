@@ -19,15 +19,15 @@ use Rattle.rules.specs.Runs.{Run, runs}
 use Rattle.rules.specs.Judgement.{fileOutcome}
 use Rattle.rules.specs.Listing.{pieceLine, runLine, totalLine, refusedLine, runLines, planListing, listingOf, listing}
 use Rattle.rules.specs.Plan.{runRecords, atFront, planNumbers, lateness}
-use Rattle.rules.specs.Tables.{Sound, jobIn}
 use Rattle.laws.proofs.Words.{by-test, map-same, mem-below, when-true, when-false}
-use Rattle.laws.proofs.Joined.{joined-append, length-joined, map-twice}
-use Rattle.links.proofs.LinkLaws.{job-pieces}
+use Rattle.laws.proofs.Joined.{joined-twice, length-joined, map-twice}
 use Rattle.steps.specs.Log.{loggedRuns}
 use Rattle.demands.proofs.Answers.{first-bytes-listing}
 use Rattle.demands.proofs.Runs.{run-records}
 use Rattle.output.specs.Late.{latenessIn}
-use Rattle.planner.proofs.PlanLaws.{Finished, desk-is, count-here, end-here, worst-here, stored-front}
+use Rattle.planner.specs.Finished.{Finished}
+use Rattle.planner.proofs.PlanLaws.{count-here, end-here, worst-here, stored-front}
+use Rattle.planner.proofs.WriteLaws.{few-pieces}
 use Rattle.listing.specs.Puts.{Puts}
 use Rattle.listing.specs.Lines.{pieceText, runText, totalText, refusedText, pieceLineIn, pieceLinesIn, deskLinesIn, runLinesIn}
 use Rattle.listing.proofs.LineLaws.{run-most, total-most, refused-most}
@@ -94,12 +94,6 @@ sum-most f g k h (x ∷ xs) =
     let q : k * (g x + sum (map g xs)) ≡ k * g x + k * sum (map g xs) = omega arith in
     rw q (omega (arith, h x))
 
--- Lists of lists of lists, one behind the other.
-joined-twice : {A B : Type 0} (f : B → List (List A)) (l : List B) → joined (joined (map f l)) ≡ joined (map (λ x. joined (f x)) l)
-unfolding joined
-joined-twice f [] = refl
-joined-twice f (x ∷ xs) = joined-append (f x) (joined (map f xs)) ∙ ap (λ r. joined (f x) ++ r) (joined-twice f xs)
-
 -- The lines of a desk's runs have at most 141 bytes each.
 desk-most : (d : ℕ) (rs : List Run) → length (joined (map (runLine d) rs)) ≤ 141 * length rs
 unfolding joined runLine runText
@@ -131,91 +125,76 @@ total-line-is : (J : Job)
 unfolding totalText totalLine planNumbers
 total-line-is J = refl
 
-module _ (n m : ℕ) (desks durations releases dues befores afters handovers starts finishes : List ℕ) (latests : List ℤ)
-    (pieces froms untils : List ℕ) (count : ℕ) where
-  abbrev J : Job
-  J = jobIn n m desks durations releases dues befores afters handovers
+module _ {J : Job} {n : ℕ} {desks starts finishes : List ℕ} {latests : List ℤ} {pieces froms untils : List ℕ} {count : ℕ}
+    (F : Finished J n desks starts finishes latests pieces froms untils count) where
+  piece-here : (i : ℕ) → i < n → pieceLine J i ≡ pieceLineIn desks starts finishes latests i
+  unfolding pieceLineIn
+  piece-here i h =
+      piece-line-is J i ∙ λ k. pieceText i (F .desk-is i h k) (sym (F .start-is i h) k) (sym (F .finish-is i h) k) (sym (F .latest-is i h) k)
 
-  module _ (sound : Sound J)
-      (F : Finished n m desks durations releases dues befores afters handovers starts finishes latests pieces froms untils count) where
-    pieces-are : pieceCount J ≡ n
-    pieces-are = job-pieces n m desks durations releases dues befores afters handovers
+  pieces-here : joined (map (pieceLine J) (below (pieceCount J))) ≡ pieceLinesIn n desks starts finishes latests
+  unfolding pieceLinesIn
+  pieces-here =
+      ap (λ k. joined (map (pieceLine J) (below k))) (F .pieces-are)
+      ∙ ap joined (map-same (pieceLine J) (pieceLineIn desks starts finishes latests) (below n) (λ i k. piece-here i (mem-below n i k)))
 
-    desk-here : (i : ℕ) → i < n → desk J i ≡ getD desks i 0
-    desk-here = desk-is n m desks durations releases dues befores afters handovers starts finishes latests pieces froms untils count sound F
+  runs-here : joined (joined (map (runLines J) (below 32))) ≡ runLinesIn 32 count desks pieces froms untils
+  unfolding runLines runLinesIn deskLinesIn
+  runs-here =
+      joined-twice (runLines J) (below 32)
+      ∙ ap joined (map-same (λ d. joined (runLines J d)) (deskLinesIn count desks pieces froms untils) (below 32)
+      (λ d k. ap (λ rs. joined (map (runLine d) rs)) (sym (F .runs-are d (mem-below 32 d k)))))
 
-    count-is : length (runRecords J) ≡ count
-    count-is = count-here n m desks durations releases dues befores afters handovers starts finishes latests pieces froms untils count sound F
+  total-here : totalText n count (greatest 0 (map (λ i. getD finishes i 0) (below n))) (worstOf (map (latenessIn finishes latests) (below n)))
+      ≡ totalLine (planNumbers J)
+  total-here =
+      (λ k. totalText (sym (F .pieces-are) k) (sym (count-here F) k)
+      (end-here F k) (worst-here F k))
+      ∙ total-line-is J
 
-    piece-here : (i : ℕ) → i < n → pieceLine J i ≡ pieceLineIn desks starts finishes latests i
-    unfolding pieceLineIn
-    piece-here i h =
-        piece-line-is J i ∙ λ k. pieceText i (desk-here i h k) (sym (F .start-is i h) k) (sym (F .finish-is i h) k) (sym (F .latest-is i h) k)
+  -- The pages are the listing.
+  pub pages-are : pagesIn n count desks starts finishes latests pieces froms untils ≡ planListing J
+  unfolding pagesIn planListing
+  pages-are = λ k. sym pieces-here k ++ sym runs-here k ++ total-here k
 
-    pieces-here : joined (map (pieceLine J) (below (pieceCount J))) ≡ pieceLinesIn n desks starts finishes latests
-    unfolding pieceLinesIn
-    pieces-here =
-        ap (λ k. joined (map (pieceLine J) (below k))) pieces-are
-        ∙ ap joined (map-same (pieceLine J) (pieceLineIn desks starts finishes latests) (below n) (λ i k. piece-here i (mem-below n i k)))
+  pub listing-is : (file : List ℕ) → fileOutcome file ≡ accepted J
+      → pagesIn n count desks starts finishes latests pieces froms untils ≡ listing file
+  unfolding listingOf
+  listing-is file says = pages-are ∙ sym (first-bytes-listing file ∙ ap listingOf says)
 
-    runs-here : joined (joined (map (runLines J) (below 32))) ≡ runLinesIn 32 count desks pieces froms untils
-    unfolding runLines runLinesIn deskLinesIn
-    runs-here =
-        joined-twice (runLines J) (below 32)
-        ∙ ap joined (map-same (λ d. joined (runLines J d)) (deskLinesIn count desks pieces froms untils) (below 32)
-        (λ d k. ap (λ rs. joined (map (runLine d) rs)) (sym (F .runs-are d (mem-below 32 d k)))))
+  -- At most 141 bytes for each run of the log.
+  pub runs-most : length (runLinesIn 32 count desks pieces froms untils) ≤ 141 * count
+  runs-most =
+      let each : length (runLinesIn 32 count desks pieces froms untils) ≤ 141 * sum (map (λ d. length (loggedRuns desks pieces froms untils count d)) (below 32)) =
+      rw (in-desks count desks pieces froms untils)
+      (sum-most (λ d. length (deskLinesIn count desks pieces froms untils d)) (λ d. length (loggedRuns desks pieces froms untils count d)) 141
+      (desk-lines-most count desks pieces froms untils) (below 32)) in
+      omega (
+        arith,
+        each,
+        run-records J,
+        count-here F,
+        ap sum
+            (map-same (λ d. length (loggedRuns desks pieces froms untils count d)) (λ d. length (runs J d)) (below 32)
+            (λ d k. ap length (F .runs-are d (mem-below 32 d k)))),
+      )
 
-    total-here : totalText n count (greatest 0 (map (λ i. getD finishes i 0) (below n))) (worstOf (map (latenessIn finishes latests) (below n)))
-        ≡ totalLine (planNumbers J)
-    total-here =
-        (λ k. totalText (sym pieces-are k) (sym count-is k)
-        (end-here n m desks durations releases dues befores afters handovers starts finishes latests pieces froms untils count sound F k)
-        (worst-here n m desks durations releases dues befores afters handovers starts finishes latests pieces froms untils count sound F k))
-        ∙ total-line-is J
-
-    -- The pages are the listing.
-    pub pages-are : pagesIn n count desks starts finishes latests pieces froms untils ≡ planListing J
-    unfolding pagesIn planListing
-    pages-are = λ k. sym pieces-here k ++ sym runs-here k ++ total-here k
-
-    pub listing-is : (file : List ℕ) → fileOutcome file ≡ accepted J
-        → pagesIn n count desks starts finishes latests pieces froms untils ≡ listing file
-    unfolding listingOf
-    listing-is file says = pages-are ∙ sym (first-bytes-listing file ∙ ap listingOf says)
-
-    -- At most 141 bytes for each run of the log.
-    pub runs-most : length (runLinesIn 32 count desks pieces froms untils) ≤ 141 * count
-    runs-most =
-        let each : length (runLinesIn 32 count desks pieces froms untils) ≤ 141 * sum (map (λ d. length (loggedRuns desks pieces froms untils count d)) (below 32)) =
-        rw (in-desks count desks pieces froms untils)
-        (sum-most (λ d. length (deskLinesIn count desks pieces froms untils d)) (λ d. length (loggedRuns desks pieces froms untils count d)) 141
-        (desk-lines-most count desks pieces froms untils) (below 32)) in
-        omega (
-          arith,
-          each,
-          run-records J,
-          count-is,
-          ap sum
-              (map-same (λ d. length (loggedRuns desks pieces froms untils count d)) (λ d. length (runs J d)) (below 32)
-              (λ d k. ap length (F .runs-are d (mem-below 32 d k)))),
-        )
-
-    -- Every listing has room.
-    pub pages-most : n ≤ 256 → count ≤ n + n → length (pagesIn n count desks starts finishes latests pieces froms untils) ≤ enough
-    unfolding pagesIn
-    pages-most few some =
-        let e = greatest 0 (map (λ i. getD finishes i 0) (below n)) in
-        let w = worstOf (map (latenessIn finishes latests) (below n)) in
-        omega (
-          arith,
-          few,
-          some,
-          runs-most,
-          pieces-most desks starts finishes latests n,
-          total-most n count e w,
-          length-append (pieceLinesIn n desks starts finishes latests) (runLinesIn 32 count desks pieces froms untils),
-          length-append (pieceLinesIn n desks starts finishes latests ++ runLinesIn 32 count desks pieces froms untils) (totalText n count e w),
-        )
+  -- Every listing has room.
+  pub pages-most : length (pagesIn n count desks starts finishes latests pieces froms untils) ≤ enough
+  unfolding pagesIn
+  pages-most =
+      let e = greatest 0 (map (λ i. getD finishes i 0) (below n)) in
+      let w = worstOf (map (latenessIn finishes latests) (below n)) in
+      omega (
+        arith,
+        few-pieces F,
+        F .few,
+        runs-most,
+        pieces-most desks starts finishes latests n,
+        total-most n count e w,
+        length-append (pieceLinesIn n desks starts finishes latests) (runLinesIn 32 count desks pieces froms untils),
+        length-append (pieceLinesIn n desks starts finishes latests ++ runLinesIn 32 count desks pieces froms untils) (totalText n count e w),
+      )
 
 -- The pages one behind the other.
 module _ (n count : ℕ) (desks starts finishes : List ℕ) (latests : List ℤ) (pieces froms untils : List ℕ) where

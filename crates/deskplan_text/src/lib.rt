@@ -1,12 +1,12 @@
 // The text that deskplan prints: the listing of a job file in a lent text. Every file has one; a text of 131,072 bytes has
 // room for each.
-use links::moments::latest_moments;
 use listing::lines::put_refused_line;
 use listing::lines::put_total_line;
 use listing::pages::put_piece_lines;
 use listing::pages::put_run_lines;
 use output::figures::largest_finish;
 use output::figures::worst_lateness;
+use planner::finished::finish_plan;
 use planner::judged::judge_file;
 use reader::Read;
 ghost use mathlib.Core.List.{List};
@@ -35,7 +35,9 @@ fn put_pages(
     text: &mut [u8],
 ) -> usize
     requires { ⌜ ToPrint n count (now desks) (now finishes) (now latests) (now pieces) (now froms) (now untils) (now text) ⌝ }
-    ensures { λ r. ⌜ Puts (now (text .entry)) 0 (pagesIn n count (now (desks .entry)) (now (starts .entry)) (now (finishes .entry)) (now (latests .entry)) (now (pieces .entry)) (now (froms .entry)) (now (untils .entry))) (now (text .exit)) r ⌝ }
+    ensures { λ r. ⌜ Puts (now (text .entry)) 0 (pagesIn n count (now (desks .entry)) (now (starts .entry))
+        (now (finishes .entry)) (now (latests .entry)) (now (pieces .entry)) (now (froms .entry)) (now (untils .entry)))
+        (now (text .exit)) r ⌝ }
 {
     let runs_at = put_piece_lines(n, desks, starts, finishes, latests, 0, text);
     let total_at = put_run_lines(count, desks, pieces, froms, untils, runs_at, text);
@@ -57,25 +59,19 @@ fn list_accepted(
     handovers: &[u16; 1024],
     text: &mut [u8],
 ) -> usize
-    requires { ⌜ ToList pieces links (jobIn pieces links (now desks) (now durations) (now releases) (now dues) (now befores) (now afters) (now handovers)) (now text) ⌝ }
-    ensures { λ r. ⌜ ((file : List ℕ) → fileOutcome file ≡ accepted (jobIn pieces links (now (desks .entry)) (now (durations .entry)) (now (releases .entry)) (now (dues .entry)) (now (befores .entry)) (now (afters .entry)) (now (handovers .entry))) → ListingPromise file (now (text .entry)) r (now (text .exit))) ⌝ }
+    requires { ⌜ ToList pieces links (jobIn pieces links (now desks) (now durations) (now releases) (now dues) (now befores)
+        (now afters) (now handovers)) (now text) ⌝ }
+    ensures { λ r. ⌜ ((file : List ℕ) → fileOutcome file ≡ accepted (jobIn pieces links (now (desks .entry))
+        (now (durations .entry)) (now (releases .entry)) (now (dues .entry)) (now (befores .entry)) (now (afters .entry))
+        (now (handovers .entry))) → ListingPromise file (now (text .entry)) r (now (text .exit))) ⌝ }
 {
-    let mut latests = [0i32; 256];
-    latest_moments(
-        pieces,
-        links,
-        durations,
-        dues,
-        befores,
-        afters,
-        &mut latests,
-    );
     let mut starts = [0u32; 256];
     let mut finishes = [0u32; 256];
+    let mut latests = [0i32; 256];
     let mut run_pieces = [0u16; 512];
     let mut froms = [0u32; 512];
     let mut untils = [0u32; 512];
-    let runs = urgency::plan(
+    let runs = finish_plan(
         pieces,
         links,
         desks,
@@ -85,9 +81,9 @@ fn list_accepted(
         befores,
         afters,
         handovers,
-        &latests,
         &mut starts,
         &mut finishes,
+        &mut latests,
         &mut run_pieces,
         &mut froms,
         &mut untils,

@@ -51,6 +51,12 @@ unfolding joined
 joined-append [] k = refl
 joined-append (x ∷ xs) k = ap (λ r. x ++ r) (joined-append xs k) ∙ sym (append-assoc x (joined xs) (joined k))
 
+pub joined-twice : {A B : Type 0} (f : B → List (List A)) (l : List B)
+    → joined (joined (map f l)) ≡ joined (map (λ x. joined (f x)) l)
+unfolding joined
+joined-twice f [] = refl
+joined-twice f (x ∷ xs) = joined-append (f x) (joined (map f xs)) ∙ ap (λ r. joined (f x) ++ r) (joined-twice f xs)
+
 pub keep-append : {A : Type 0} (p : A → Bool) (l k : List A) → keep p (l ++ k) ≡ keep p l ++ keep p k
 unfolding keep when
 keep-append p [] k = refl

@@ -8,28 +8,29 @@ use native.Mathlib.Omega.{arith}
 use lib.IntN.{ℤ, pos}
 use lib.ListN.{length, getD}
 use lib.Signed.{mag}
-use Rattle.rules.specs.Job.{pieceCount, refused, accepted}
+use Rattle.rules.specs.Job.{Job, pieceCount, refused, accepted}
 use Rattle.rules.specs.Judgement.{fileOutcome}
 use Rattle.rules.specs.declared.Refusal.{Refusal}
 use Rattle.rules.specs.declared.PlanAnswer.{PlanAnswer}
 use Rattle.rules.specs.Moments.{latest}
 use Rattle.rules.specs.Rings.{ringPiece}
-use Rattle.rules.specs.Tables.{Sound, jobIn}
+use Rattle.rules.specs.Tables.{Sound, jobIn, pieceIn}
 use Rattle.laws.proofs.Signed.{up, dn, _≼_, below-zero, below-zero-is}
 use Rattle.laws.proofs.Latest.{latest-least, latest-most}
 use Rattle.demands.proofs.Accepting.{accepted-sound, accepted-free}
 use Rattle.demands.proofs.Finishes.{finish-most}
 use Rattle.links.specs.Moments.{ToTime, Timed}
-use Rattle.links.proofs.LinkLaws.{job-pieces, job-links}
+use Rattle.links.proofs.LinkLaws.{job-pieces, job-piece, job-links}
 use Rattle.urgency.specs.Plan.{Given, Planned}
 use Rattle.output.specs.Written.{LogFits}
 use Rattle.output.specs.Late.{Bounded}
 use Rattle.reader.specs.Outcome.{outcomeOf}
 use Rattle.reader.specs.declared.Read.{Read}
-use Rattle.reader.specs.declared.Read.the-variants.{Job, Refused}
+use Rattle.reader.specs.declared.Read.the-variants as R
 use Rattle.demands.specs.Promises.{PlanPromise}
 use Rattle.planner.specs.Judged.{JudgesFile, Planable, refusedAnswer}
-use Rattle.planner.proofs.PlanLaws.{Finished, plan-refused, plan-short}
+use Rattle.planner.specs.Finished.{Finished}
+use Rattle.planner.proofs.PlanLaws.{plan-refused, plan-short}
 
 -- A signed number in a range is not far from zero.
 near-zero : (z : ℤ) → below-zero 244800 ≼ z → z ≼ pos 40000 → mag z ≤ 244800
@@ -39,10 +40,10 @@ near-zero (ℤ.negsuc k) low high = omega (arith, below-zero-is 244800)
 
 module _ (n m : ℕ) (desks durations releases dues befores afters handovers : List ℕ)
     (P : Planable n m (jobIn n m desks durations releases dues befores afters handovers)) where
-  pub sound-here : Sound (jobIn n m desks durations releases dues befores afters handovers)
+  sound-here : Sound (jobIn n m desks durations releases dues befores afters handovers)
   sound-here = accepted-sound (P .file) _ (P .says)
 
-  pub free-here : ringPiece (jobIn n m desks durations releases dues befores afters handovers) ≡ none
+  free-here : ringPiece (jobIn n m desks durations releases dues befores afters handovers) ≡ none
   free-here = accepted-free (P .file) _ (P .says)
 
   pub to-time : (moments : List ℤ) → length moments ≡ 256 → ToTime n m durations dues befores afters moments
@@ -63,43 +64,53 @@ module _ (n m : ℕ) (desks durations releases dues befores afters handovers : L
       latest-is = timed .latests desks releases handovers sound-here free-here;
     }
 
-    module _ (starts finishes pieces froms untils : List ℕ) (count : ℕ)
-        (planned : Planned (jobIn n m desks durations releases dues befores afters handovers) n desks starts finishes pieces froms untils count) where
-      pub finished-here : Finished n m desks durations releases dues befores afters handovers starts finishes latests pieces froms untils count
-      finished-here = record {
-        start-is = planned .start-is;
-        finish-is = planned .finish-is;
-        latest-is = given-here .latest-is;
-        runs-are = planned .runs-are;
-        inside = planned .inside;
-      }
+    pub finished-here : (starts finishes pieces froms untils : List ℕ) (count : ℕ)
+        → Planned (jobIn n m desks durations releases dues befores afters handovers) n desks starts finishes pieces froms untils count
+        → Finished (jobIn n m desks durations releases dues befores afters handovers) n desks starts finishes latests pieces froms
+        untils count
+    unfolding pieceIn
+    finished-here starts finishes pieces froms untils count planned = record {
+      sound = sound-here;
+      free = free-here;
+      pieces-are = job-pieces n m desks durations releases dues befores afters handovers;
+      desk-is = λ i h. ap (λ p. p .desk) (job-piece n m desks durations releases dues befores afters handovers i h);
+      start-is = planned .start-is;
+      finish-is = planned .finish-is;
+      latest-is = given-here .latest-is;
+      runs-are = planned .runs-are;
+      inside = planned .inside;
+      few = planned .few;
+      sized = planned .sized;
+    }
 
-      pub log-fits : LogFits count pieces
-      log-fits = record {
-        few = omega (arith, planned .few, P .few-pieces);
-        known = λ k h. omega (arith, planned .inside k h, P .few-pieces);
-      }
+-- What the records and figures of a finished plan ask for.
+module _ {J : Job} {n : ℕ} {desks starts finishes : List ℕ} {latests : List ℤ} {pieces froms untils : List ℕ} {count : ℕ}
+    (F : Finished J n desks starts finishes latests pieces froms untils count) where
+  pub few-pieces : n ≤ 256
+  few-pieces = omega (arith, F .pieces-are, F .sound .few-pieces)
 
-      pub bounded-here : (i : ℕ) → i < n → Bounded (getD finishes i 0) (getD latests i (pos 0))
-      bounded-here i h =
-          let count : pieceCount (jobIn n m desks durations releases dues befores afters handovers) ≡ n =
-          job-pieces n m desks durations releases dues befores afters handovers in
-          let l : i < pieceCount (jobIn n m desks durations releases dues befores afters handovers) = omega arith in
-          rw (planned .finish-is i h, given-here .latest-is i h) (record {
-            early = finish-most (jobIn n m desks durations releases dues befores afters handovers) sound-here free-here i l;
-            near = near-zero _
-                (latest-least (jobIn n m desks durations releases dues befores afters handovers) sound-here free-here i l)
-                (latest-most (jobIn n m desks durations releases dues befores afters handovers) sound-here free-here i l);
-          })
+  pub log-fits : LogFits count pieces
+  log-fits = record {
+    few = omega (arith, F .few, few-pieces);
+    known = λ k h. omega (arith, F .inside k h, few-pieces);
+  }
+
+  pub bounded-here : (i : ℕ) → i < n → Bounded (getD finishes i 0) (getD latests i (pos 0))
+  bounded-here i h =
+      let l : i < pieceCount J = omega (arith, F .pieces-are) in
+      rw (F .finish-is i h, F .latest-is i h) (record {
+        early = finish-most J (F .sound) (F .free) i l;
+        near = near-zero _ (latest-least J (F .sound) (F .free) i l) (latest-most J (F .sound) (F .free) i l);
+      })
 
 -- What a judged file is to the plan: planable, or refused.
 module _ {s : List ℕ} {r : Read} {desks durations releases dues befores afters handovers : List ℕ}
     (judged : JudgesFile s r desks durations releases dues befores afters handovers) where
-  pub accepted-here : (n m : ℕ) → r ≡ Job n m
+  pub accepted-here : (n m : ℕ) → r ≡ R.Job n m
       → fileOutcome s ≡ accepted (jobIn n m desks durations releases dues befores afters handovers)
   accepted-here n m e = judged .says ∙ ap (λ a. outcomeOf a desks durations releases dues befores afters handovers) e
 
-  pub planable-here : (n m : ℕ) → r ≡ Job n m → Planable n m (jobIn n m desks durations releases dues befores afters handovers)
+  pub planable-here : (n m : ℕ) → r ≡ R.Job n m → Planable n m (jobIn n m desks durations releases dues befores afters handovers)
   planable-here n m e = record {
     few-pieces = omega (arith, judged .sound n m e .few-pieces, job-pieces n m desks durations releases dues befores afters handovers);
     few-links = omega (arith, judged .sound n m e .few-links, job-links n m desks durations releases dues befores afters handovers);
@@ -107,7 +118,7 @@ module _ {s : List ℕ} {r : Read} {desks durations releases dues befores afters
     says = judged .says ∙ ap (λ a. outcomeOf a desks durations releases dues befores afters handovers) e;
   }
 
-  pub refused-here : (x : Refusal) → r ≡ Refused x → fileOutcome s ≡ refused x
+  pub refused-here : (x : Refusal) → r ≡ R.Refused x → fileOutcome s ≡ refused x
   refused-here x e = judged .says ∙ ap (λ a. outcomeOf a desks durations releases dues befores afters handovers) e
 
 pub answered-refused : (file buffer : List ℕ) (x : Refusal) (answer : PlanAnswer) → answer ≡ refusedAnswer x

@@ -17,7 +17,8 @@ pub fn judge_file(
     afters: &mut [u16; 1024],
     handovers: &mut [u16; 1024],
 ) -> Read
-    ensures { λ r. ⌜ JudgesFile (now (file .entry)) r (now (desks .exit)) (now (durations .exit)) (now (releases .exit)) (now (dues .exit)) (now (befores .exit)) (now (afters .exit)) (now (handovers .exit)) ⌝ }
+    ensures { λ r. ⌜ JudgesFile (now (file .entry)) r (now (desks .exit)) (now (durations .exit)) (now (releases .exit))
+        (now (dues .exit)) (now (befores .exit)) (now (afters .exit)) (now (handovers .exit)) ⌝ }
 {
     let read = read_job(
         file,

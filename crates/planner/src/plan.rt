@@ -1,6 +1,6 @@
 // The plan of a job file: result and run records in the lent buffer. Everything is judged before the first byte is written.
+use crate::finished::finish_plan;
 use crate::judged::judge_file;
-use links::moments::latest_moments;
 use output::figures::largest_finish;
 use output::figures::worst_lateness;
 use output::results::put_results;
@@ -45,25 +45,19 @@ fn write_plan(
     handovers: &[u16; 1024],
     buffer: &mut [u8],
 ) -> PlanAnswer
-    requires { ⌜ ToPlan pieces links (jobIn pieces links (now desks) (now durations) (now releases) (now dues) (now befores) (now afters) (now handovers)) (length (now buffer)) ⌝ }
-    ensures { λ r. ⌜ ((file : List ℕ) → fileOutcome file ≡ accepted (jobIn pieces links (now (desks .entry)) (now (durations .entry)) (now (releases .entry)) (now (dues .entry)) (now (befores .entry)) (now (afters .entry)) (now (handovers .entry))) → PlanPromise file (now (buffer .entry)) r (now (buffer .exit))) ⌝ }
+    requires { ⌜ ToPlan pieces links (jobIn pieces links (now desks) (now durations) (now releases) (now dues) (now befores)
+        (now afters) (now handovers)) (length (now buffer)) ⌝ }
+    ensures { λ r. ⌜ ((file : List ℕ) → fileOutcome file ≡ accepted (jobIn pieces links (now (desks .entry))
+        (now (durations .entry)) (now (releases .entry)) (now (dues .entry)) (now (befores .entry)) (now (afters .entry))
+        (now (handovers .entry))) → PlanPromise file (now (buffer .entry)) r (now (buffer .exit))) ⌝ }
 {
-    let mut latests = [0i32; 256];
-    latest_moments(
-        pieces,
-        links,
-        durations,
-        dues,
-        befores,
-        afters,
-        &mut latests,
-    );
     let mut starts = [0u32; 256];
     let mut finishes = [0u32; 256];
+    let mut latests = [0i32; 256];
     let mut run_pieces = [0u16; 512];
     let mut froms = [0u32; 512];
     let mut untils = [0u32; 512];
-    let runs = urgency::plan(
+    let runs = finish_plan(
         pieces,
         links,
         desks,
@@ -73,9 +67,9 @@ fn write_plan(
         befores,
         afters,
         handovers,
-        &latests,
         &mut starts,
         &mut finishes,
+        &mut latests,
         &mut run_pieces,
         &mut froms,
         &mut untils,
@@ -115,8 +109,11 @@ fn plan_accepted(
     handovers: &[u16; 1024],
     buffer: &mut [u8],
 ) -> PlanAnswer
-    requires { ⌜ Planable pieces links (jobIn pieces links (now desks) (now durations) (now releases) (now dues) (now befores) (now afters) (now handovers)) ⌝ }
-    ensures { λ r. ⌜ ((file : List ℕ) → fileOutcome file ≡ accepted (jobIn pieces links (now (desks .entry)) (now (durations .entry)) (now (releases .entry)) (now (dues .entry)) (now (befores .entry)) (now (afters .entry)) (now (handovers .entry))) → PlanPromise file (now (buffer .entry)) r (now (buffer .exit))) ⌝ }
+    requires { ⌜ Planable pieces links (jobIn pieces links (now desks) (now durations) (now releases) (now dues) (now befores)
+        (now afters) (now handovers)) ⌝ }
+    ensures { λ r. ⌜ ((file : List ℕ) → fileOutcome file ≡ accepted (jobIn pieces links (now (desks .entry))
+        (now (durations .entry)) (now (releases .entry)) (now (dues .entry)) (now (befores .entry)) (now (afters .entry))
+        (now (handovers .entry))) → PlanPromise file (now (buffer .entry)) r (now (buffer .exit))) ⌝ }
 {
     if buffer.len() < 48 * pieces {
         return refused(Refusal {

@@ -13,33 +13,23 @@ use Rattle.rules.specs.Job.{Job, pieceCount, desk, deskPieces}
 use Rattle.rules.specs.Tables.{jobIn}
 use Rattle.rules.specs.BlockSheet.{blocks, blockRuns, blockNumbers}
 use Rattle.laws.proofs.Words.{keep-length, length-below}
-use Rattle.links.specs.Moments.{Timed}
 use Rattle.links.proofs.LinkLaws.{job-pieces}
-use Rattle.urgency.specs.Plan as U
 use Rattle.method.specs.Board.{runOf, stretchAt, runsIn}
 use Rattle.blocks.specs.Rows.{rowAt, rowsIn}
 use Rattle.blocks.specs.Sheet.{sheetRow, Laid, SheetOf}
-use Rattle.planner.specs.Judged.{Planable}
+use Rattle.planner.specs.Finished.{Finished}
 use Rattle.sheets.specs.Listed.{recordsIn}
-use Rattle.planner.proofs.WriteLaws.{sound-here, free-here, given-here}
 
-module _ (n m : ℕ) (desks durations releases dues befores afters handovers : List ℕ)
-    (P : Planable n m (jobIn n m desks durations releases dues befores afters handovers))
-    (latests : List ℤ) (timed : Timed n m durations dues befores afters latests) (starts finishes pieces froms untils : List ℕ) (count : ℕ)
-    (planned : U.Planned (jobIn n m desks durations releases dues befores afters handovers) n desks starts finishes pieces froms untils count)
-  where
-    pub laid-here : Laid (jobIn n m desks durations releases dues befores afters handovers) n m desks durations releases befores afters
-        handovers finishes latests
-    laid-here = record {
-      planned = record {
-        dues = dues;
-        is = refl;
-        sound = sound-here n m desks durations releases dues befores afters handovers P;
-        free = free-here n m desks durations releases dues befores afters handovers P;
-        finished = planned .finish-is;
-      };
-      latest-is = given-here n m desks durations releases dues befores afters handovers P latests timed .latest-is;
-    }
+-- The finished plan of a job in its tables.
+pub laid-here : (n m : ℕ) (desks durations releases dues befores afters handovers : List ℕ) {starts finishes : List ℕ}
+    {latests : List ℤ} {pieces froms untils : List ℕ} {count : ℕ}
+    → Finished (jobIn n m desks durations releases dues befores afters handovers) n desks starts finishes latests pieces froms untils count
+    → Laid (jobIn n m desks durations releases dues befores afters handovers) n m desks durations releases befores afters handovers
+    finishes latests
+laid-here n m desks durations releases dues befores afters handovers F = record {
+  planned = record { dues = dues; is = refl; sound = F .sound; free = F .free; finished = F .finish-is };
+  latest-is = F .latest-is;
+}
 
 -- A desk has no more pieces than there are.
 desk-few : (J : Job) (d : ℕ) → length (deskPieces J d) ≤ pieceCount J

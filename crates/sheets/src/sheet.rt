@@ -4,7 +4,7 @@ use crate::rows::put_blocks;
 use crate::rows::put_runs;
 use blocks::planned::planned_sheet;
 use blocks::sheet::Sheet;
-use links::moments::latest_moments;
+use planner::finished::finish_plan;
 use planner::judged::judge_file;
 use reader::Read;
 use rules::BlockAnswer;
@@ -65,10 +65,9 @@ fn fill_sheet(
         (now (counts .exit)) (now (starts .exit)) (now (ends .exit)) (now (pieces .exit)) (now (froms .exit))
         (now (untils .exit)) (r .blocks) (r .runs) (r .worst) ⌝ }
 {
-    let mut latests = [0i32; 256];
-    latest_moments(n, m, durations, dues, befores, afters, &mut latests);
     let mut finishes = [0u32; 256];
-    urgency::plan(
+    let mut latests = [0i32; 256];
+    finish_plan(
         n,
         m,
         desks,
@@ -78,9 +77,9 @@ fn fill_sheet(
         befores,
         afters,
         handovers,
-        &latests,
         starts,
         &mut finishes,
+        &mut latests,
         pieces,
         froms,
         untils,

@@ -23,8 +23,9 @@ enum-known-judged-2 c = search needs
 
 plan-accepted-requires : tie.Need-plan-accepted-requires
 plan-accepted-requires c κs =
-    let g = c .before .before .before .before .before .before .before .before .before .judged2 .given in
-    planable-here (c .before .before .before .before .before .before .before .before .before .before .before .judge-file .ensures) (g .0 .0) (g .0 .1 .0) (g .1)
+    let j = c .before .before .before .before .before .before .before .before .before in
+    let g = j .judged2 .given in
+    planable-here (j .before .before .judge-file .ensures) (g .0 .0) (g .0 .1 .0) (g .1)
 
 returns : tie.Need-returns
 returns c =
@@ -38,10 +39,11 @@ same-length c = search needs
 
 returns-2 : tie.Need-returns-2
 returns-2 c =
-    let a = c .before .before .before .before .before .before .before .before .before .before .before .before .before .before .before .before .before .before .before .before .before .before .before .before .args in
-    let g = c .before .before .before .before .before .before .before .before .before .before .before .before .judged2 .given in
+    let j = c .before .before .before .before .before .before .before .before .before .before .before .before in
+    let a = j .before .before .before .before .before .before .before .before .before .before .before .before .args in
+    let g = j .judged2 .given in
     c .before .before .plan-accepted .ensures (a .file .now)
-    (accepted-here (c .before .before .before .before .before .before .before .before .before .before .before .before .before .before .judge-file .ensures) (g .0 .0) (g .0 .1 .0) (g .1))
+    (accepted-here (j .before .before .judge-file .ensures) (g .0 .0) (g .0 .1 .0) (g .1))
 
 pub plan-spec : {M : Type 1} → statement M
 plan-spec =
