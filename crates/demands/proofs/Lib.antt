@@ -9,3 +9,4 @@ pub mod Agreement
 pub mod Best
 pub mod Runs
 pub mod Answers
+pub mod Sheets

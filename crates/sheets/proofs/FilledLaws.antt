@@ -4,15 +4,15 @@ use Prim.Native.Nat.{ℕ, _+_, _*_, _≤_, _<_}
 use mathlib.Core.List.{List, map}
 use mathlib.Core.Path.{_≡_, refl, sym, ap, _∙_}
 use native.Mathlib.Omega.{arith}
-use lib.Dec.{eqb}
 use lib.IntN.{ℤ}
 use lib.ListN.{length, length-map}
 use lib.Seq.{sets, length-sets}
 use Rattle.rules.specs.Words.{below}
-use Rattle.rules.specs.Job.{Job, pieceCount, desk, deskPieces}
+use Rattle.rules.specs.Job.{Job, deskPieces}
 use Rattle.rules.specs.Tables.{jobIn}
 use Rattle.rules.specs.BlockSheet.{blocks, blockRuns, blockNumbers}
-use Rattle.laws.proofs.Words.{keep-length, length-below}
+use Rattle.laws.proofs.Words.{length-below}
+use Rattle.demands.proofs.Sheets.{desk-few}
 use Rattle.links.proofs.LinkLaws.{job-pieces}
 use Rattle.method.specs.Board.{runOf, stretchAt, runsIn}
 use Rattle.blocks.specs.Rows.{rowAt, rowsIn}
@@ -31,13 +31,7 @@ laid-here n m desks durations releases dues befores afters handovers F = record 
   latest-is = F .latest-is;
 }
 
--- A desk has no more pieces than there are.
-desk-few : (J : Job) (d : ℕ) → length (deskPieces J d) ≤ pieceCount J
-unfolding deskPieces
-desk-few J d =
-    omega (arith, keep-length (λ i. eqb (desk J i) d) (below (pieceCount J)), length-below (pieceCount J))
-
--- So its sheet has few records.
+-- The sheet has few records.
 module _ (n m : ℕ) (desks durations releases dues befores afters handovers : List ℕ) {d : ℕ}
     {counts starts ends pieces froms untils : List ℕ} {rows runs : ℕ} {worst : ℤ}
     (sheet : SheetOf (jobIn n m desks durations releases dues befores afters handovers) d counts starts ends pieces froms untils rows runs worst)
