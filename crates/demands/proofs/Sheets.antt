@@ -1,62 +1,27 @@
 -- The block sheet's counts: the bytes written are 16 for each block and each run that the answer counts, and they fit 48
 -- bytes for each piece of the file.
-use Prim.Native.Nat.{ℕ, zero, suc, _+_, _*_, _≤_, _<_}
-use mathlib.Core.Bool.{true, false}
-use mathlib.Core.List.{List, [], _∷_, _++_, map, List·Memᴰ as Mem, List·Memᴰ·head as here, List·Memᴰ·tail as there, List·Memᴰ·append-cases}
+use Prim.Native.Nat.{ℕ, _+_, _*_, _≤_, _<_}
+use mathlib.Core.List.{List, _++_, map, List·Memᴰ as Mem, List·Memᴰ·append-cases}
 use mathlib.Core.Logic.{⊎-elim}
-use mathlib.Core.Path.{_≡_, refl, sym, ap, _∙_}
+use mathlib.Core.Path.{_≡_, ap, _∙_}
 use native.Mathlib.Omega.{arith}
-use lib.Dec.{eqb, leb}
+use lib.Dec.{eqb}
 use lib.ListN.{length, length-map, length-append}
-use Rattle.rules.specs.Words.{when, below, sum}
+use Rattle.rules.specs.Words.{below}
 use Rattle.rules.specs.Job.{Job, pieceCount, desk, deskPieces}
 use Rattle.rules.specs.Hours.{nextOpen, openEnd}
 use Rattle.rules.specs.Runs.{runs}
-use Rattle.rules.specs.Plan.{runRecords}
 use Rattle.rules.specs.Bytes.{runRecord}
-use Rattle.rules.specs.Entries.{Entry, entry, entries}
-use Rattle.rules.specs.Blocks.{Block, blockOf, gathered, blockEnd, gather, cutInOrder, cut, readyFirst, placed, inOrder}
+use Rattle.rules.specs.Entries.{entry, entries}
+use Rattle.rules.specs.Blocks.{blockEnd}
 use Rattle.rules.specs.BlockSheet.{blocks, blockRuns, blockRecordOf, sheetBytes, blockNumbers}
-use Rattle.laws.proofs.Words.{by-test, keep-length, length-below, below-mem}
+use Rattle.laws.proofs.Words.{keep-length, length-below, below-mem, sum-mem}
 use Rattle.laws.proofs.Joined.{mem-of-map}
 use Rattle.laws.proofs.Bytes.{run-sized, block-sized, records-sized}
+use Rattle.theory.proofs.BlockShape.{cut-length}
 use Rattle.demands.specs.Accepted.{AcceptedAs}
 use Rattle.demands.proofs.Agreement.{block-runs-agree}
 use Rattle.demands.proofs.Runs.{run-records, two-runs-a-piece}
-
--- Sorting keeps the count.
-placed-count : (e : Entry) (es : List Entry) → length (placed e es) ≡ suc (length es)
-unfolding placed
-placed-count e [] = refl
-placed-count e (f ∷ fs) =
-    by-test (readyFirst e f) (λ h. rw (h, when) refl) (λ h. rw (h, when) (ap suc (placed-count e fs)))
-
-order-count : (es : List Entry) → length (inOrder es) ≡ length es
-unfolding inOrder
-order-count [] = refl
-order-count (e ∷ es) = placed-count e (inOrder es) ∙ ap suc (order-count es)
-
--- No more blocks than entries.
-module _ (endOf : ℕ → ℕ → ℕ) where
-  gather-few : (B : Block) (es : List Entry) → length (gather endOf B es) ≤ suc (length es)
-  unfolding gather
-  gather-few B [] = omega arith
-  gather-few B (e ∷ es) =
-      by-test (leb (blockEnd endOf B) (e .ready))
-      (λ h. let ih : length (gather endOf (blockOf e) es) ≤ suc (length es) = gather-few (blockOf e) es in rw (h, when) (omega arith))
-      (λ h. let ih : length (gather endOf (gathered B e) es) ≤ suc (length es) = gather-few (gathered B e) es in
-      rw (h, when) (omega arith))
-
-  cut-few : (es : List Entry) → length (cutInOrder endOf es) ≤ length es
-  unfolding cutInOrder
-  cut-few [] = omega arith
-  cut-few (e ∷ es) = gather-few (blockOf e) es
-
--- One of the numbers of a sum is at most the sum.
-part-of-sum : {A : Type 0} (f : A → ℕ) (l : List A) (x : A) → Mem x l → f x ≤ sum (map f l)
-unfolding sum
-part-of-sum f (y ∷ ys) x (here e) = rw e (omega arith)
-part-of-sum f (y ∷ ys) x (there m) = omega (arith, part-of-sum f ys x m)
 
 module _ (J : Job) (d : ℕ) where
   -- A desk has no more pieces than there are, and no more blocks than pieces.
@@ -65,12 +30,11 @@ module _ (J : Job) (d : ℕ) where
   desk-few = omega (arith, keep-length (λ i. eqb (desk J i) d) (below (pieceCount J)), length-below (pieceCount J))
 
   pub blocks-few : length (blocks J d) ≤ pieceCount J
-  unfolding blocks cut entries
+  unfolding blocks entries
   blocks-few =
       omega (
         arith,
-        cut-few (openEnd J d) (inOrder (entries J d)),
-        order-count (entries J d),
+        cut-length (openEnd J d) (entries J d),
         length-map (deskPieces J d) (entry J),
         desk-few,
       )
@@ -105,7 +69,7 @@ sheet-records-fit file J accept d known =
       sheet-written-bytes J d,
       blocks-few J d,
       ap length (block-runs-agree file J accept d),
-      part-of-sum (λ d. length (runs J d)) (below 32) d (below-mem 32 d known),
+      sum-mem (λ d. length (runs J d)) (below 32) d (below-mem 32 d known),
       run-records J,
       two-runs-a-piece file J accept,
     )
