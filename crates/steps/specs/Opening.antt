@@ -1,0 +1,21 @@
+-- The open pieces: those that are unfinished and wait for no piece. They stand in the first places of a table, in any
+-- order, and a decision looks at no others.
+use Prim.Native.Nat.{ℕ, _≤_, _<_}
+use mathlib.Core.List.{List}
+use mathlib.Core.Path.{_≡_}
+use lib.Dec.{eqb}
+use lib.ListN.{length, getD}
+use Rattle.links.specs.Links.{counted}
+
+-- One of the first k places of the table has i.
+abbrev pub Among : List ℕ → ℕ → ℕ → Type 0
+Among table k i = (q : ℕ) × (q < k) × (getD table q 0 ≡ i)
+
+-- Of n pieces the first `opened` of the table wait for none, and every unfinished piece that waits for none is there.
+-- They are no more than wait for none, so the table has room for one that waits no longer.
+pub record Opening (n opened : ℕ) (table left waits : List ℕ) : Type 0 where
+  pub sized : length table ≡ 256
+  pub room : opened ≤ counted (λ i. eqb (getD waits i 0) 0) n
+  pub inside : (q : ℕ) → q < opened → getD table q 0 < n
+  pub idle : (q : ℕ) → q < opened → getD waits (getD table q 0) 0 ≡ 0
+  pub everyone : (i : ℕ) → i < n → getD waits i 0 ≡ 0 → 0 < getD left i 0 → Among table opened i
