@@ -8,9 +8,10 @@ use mathlib.Core.Option.{Option, none, some}
 use mathlib.Core.Path.{_≡_}
 use lib.Dec.{ltb}
 use lib.IntN.{ℤ, pos}
-use lib.ListN.{length, getD}
+use lib.ListN.{length, getD, set}
 use lib.Signed.{ltZ}
 use Rattle.rules.specs.Words.{when}
+use Rattle.links.specs.Links.{counted}
 use Rattle.steps.specs.Opening.{Among}
 
 -- What a decision looks at: the moment, and for each piece its desk, its latest moment, the slots left of it, and from
@@ -63,11 +64,27 @@ module _ (v : View) (S : ℕ → Type 0) where
 pub record Busy (count : ℕ) (chosen busy : List ℕ) : Type 0 where
   pub chosen-sized : length chosen ≡ 32
   pub busy-sized : length busy ≡ 32
-  pub few : count ≤ 32
+  pub as-many : counted (λ d. ltb (getD chosen d 0) 256) 32 ≡ count
   pub desk-most : (k : ℕ) → k < count → getD busy k 0 < 32
   pub someone : (k : ℕ) → k < count → getD chosen (getD busy k 0) 0 < 256
   pub once : (p q : ℕ) → p < count → q < count → getD busy p 0 ≡ getD busy q 0 → p ≡ q
   pub everyone : (d : ℕ) → d < 32 → getD chosen d 0 < 256 → Among busy count d
+
+-- Piece i put up for desk d: it takes the desk if nobody asked for it yet, or if it goes before who did.
+pub record Picks : Type 0 where
+  pub count : ℕ
+  pub chosen : List ℕ
+  pub busy : List ℕ
+
+abbrev pub picks : ℕ → List ℕ → List ℕ → Picks
+picks count chosen busy = record { count = count; chosen = chosen; busy = busy }
+
+unfoldable pub offered : List ℤ → ℕ → ℕ → Picks → Picks
+unfolding when goesFirst
+offered latests i d p =
+    when (ltb (getD (p .chosen) d 0) 256)
+    (when (goesFirst latests i (getD (p .chosen) d 0)) (picks (p .count) (set (p .chosen) d i) (p .busy)) p)
+    (picks (p .count + 1) (set (p .chosen) d i) (set (p .busy) (p .count) d))
 
 -- The moments at which the pieces chosen by the first k of the desks that work would be finished count too.
 unfoldable pub endNext : ℕ → List ℕ → List ℕ → List ℕ → ℕ → ℕ → ℕ

@@ -19,3 +19,19 @@ pub record Opening (n opened : ℕ) (table left waits : List ℕ) : Type 0 where
   pub inside : (q : ℕ) → q < opened → getD table q 0 < n
   pub idle : (q : ℕ) → q < opened → getD waits (getD table q 0) 0 ≡ 0
   pub everyone : (i : ℕ) → i < n → getD waits i 0 ≡ 0 → 0 < getD left i 0 → Among table opened i
+
+-- A look at the first `opened` of the table stays inside the tables of the pieces and of the desks.
+pub record Lookable (opened : ℕ) (table desks : List ℕ) : Type 0 where
+  pub sized : length table ≡ 256
+  pub few : opened ≤ 256
+  pub small : (q : ℕ) → q < opened → getD table q 0 < 256
+  pub desk-most : (q : ℕ) → q < opened → getD desks (getD table q 0) 0 < 32
+
+-- What a look leaves of the table: no piece but those that were there, every unfinished one of them, and in the first k
+-- places unfinished ones only.
+pub record Kept (left : List ℕ) (opened : ℕ) (table : List ℕ) (k kept : ℕ) (table′ : List ℕ) : Type 0 where
+  pub sized : length table′ ≡ 256
+  pub fewer : kept ≤ opened
+  pub inside : (q : ℕ) → q < kept → Among table opened (getD table′ q 0)
+  pub stays : (i : ℕ) → Among table opened i → 0 < getD left i 0 → Among table′ kept i
+  pub unfinished : (q : ℕ) → q < k → 0 < getD left (getD table′ q 0) 0
