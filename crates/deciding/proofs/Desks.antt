@@ -11,12 +11,9 @@ use lib.ListN.{length, getD, set, length-set}
 use lib.Seq.{getD-set-same, getD-set-other}
 use Rattle.laws.proofs.Words.{by-test}
 use Rattle.links.specs.Links.{counted}
-use Rattle.links.proofs.Counting.{counted-same, counted-one, counted-most}
+use Rattle.links.proofs.Counting.{counted-same, counted-one, counted-most, counted-none}
 use Rattle.steps.specs.Choice.{Busy}
 use Rattle.steps.specs.Opening.{Among}
-
-pub busy-few : (count : ℕ) (chosen busy : List ℕ) → Busy count chosen busy → count ≤ 32
-busy-few count chosen busy b = omega (arith, b .as-many, counted-most (λ d. ltb (getD chosen d 0) 256) 32)
 
 -- Nobody asked for a desk yet.
 pub busy-none : (chosen busy : List ℕ) → length chosen ≡ 32 → length busy ≡ 32
@@ -24,7 +21,7 @@ pub busy-none : (chosen busy : List ℕ) → length chosen ≡ 32 → length bus
 busy-none chosen busy a b h = record {
   chosen-sized = a;
   busy-sized = b;
-  as-many = Rattle.links.proofs.Counting.counted-none (λ d. ltb (getD chosen d 0) 256) 32
+  as-many = counted-none (λ d. ltb (getD chosen d 0) 256) 32
       (λ d l. le-ltb (getD chosen d 0) 256 (omega (arith, h d l)));
   desk-most = λ k l. absurd (omega arith);
   someone = λ k l. absurd (omega arith);

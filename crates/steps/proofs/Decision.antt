@@ -16,12 +16,17 @@ use Rattle.rules.specs.Urgency.{workAt, worked}
 use Rattle.laws.proofs.Hours.{always-open}
 use Rattle.laws.proofs.Slots.{Waits, by-choice, chosen-choice, resting-choice, worked-chosen}
 use Rattle.laws.proofs.Words.{by-test, true-or-false}
+use Rattle.links.proofs.Counting.{counted-most}
 use Rattle.slots.specs.Standing.{waitsOf, readyOf}
 use Rattle.slots.specs.Stretch.{at}
 use Rattle.slots.proofs.Standing.{ready-waits, waits-ready}
 use Rattle.steps.specs.Choice.{View, Asks, Choice, Busy, codeOf}
 use Rattle.steps.proofs.Moved.{Desks, movedBy, not-moved, moved}
 use Rattle.steps.proofs.Precedence.{first-sooner}
+
+-- No more desks work than there are.
+pub busy-few : (count : ℕ) (chosen busy : List ℕ) → Busy count chosen busy → count ≤ 32
+busy-few count chosen busy b = omega (arith, b .as-many, counted-most (λ d. ltb (getD chosen d 0) 256) 32)
 
 -- The view shows the job's n pieces as they are at its moment, and S are the unfinished ones that wait for none.
 pub record Shown (J : Job) (n : ℕ) (v : View) (S : ℕ → Type 0) : Type 0 where

@@ -15,10 +15,25 @@ Among table k i = (q : ℕ) × (q < k) × (getD table q 0 ≡ i)
 -- They are no more than wait for none, so the table has room for one that waits no longer.
 pub record Opening (n opened : ℕ) (table left waits : List ℕ) : Type 0 where
   pub sized : length table ≡ 256
+  pub waits-sized : length waits ≡ 256
   pub room : opened ≤ counted (λ i. eqb (getD waits i 0) 0) n
   pub inside : (q : ℕ) → q < opened → getD table q 0 < n
   pub idle : (q : ℕ) → q < opened → getD waits (getD table q 0) 0 ≡ 0
   pub everyone : (i : ℕ) → i < n → getD waits i 0 ≡ 0 → 0 < getD left i 0 → Among table opened i
+
+-- There is room for every piece that one of the first m links leads to, whatever the number of pieces.
+pub record Room (m : ℕ) (afters : List ℕ) (opened : ℕ) (table waits : List ℕ) : Type 0 where
+  pub pieces : ℕ
+  pub left : List ℕ
+  pub few : pieces ≤ 256
+  pub after-one : (k : ℕ) → k < m → getD afters k 0 < pieces
+  pub opening : Opening pieces opened table left waits
+
+-- What the links open: from a table of the open pieces to one.
+abbrev pub Opens : ℕ → List ℕ → ℕ → List ℕ → List ℕ → ℕ → List ℕ → List ℕ → Type 0
+Opens m afters opened table waits opened′ table′ waits′ =
+    (n : ℕ) (left : List ℕ) → n ≤ 256 → ((k : ℕ) → k < m → getD afters k 0 < n) → Opening n opened table left waits
+    → Opening n opened′ table′ left waits′
 
 -- A look at the first `opened` of the table stays inside the tables of the pieces and of the desks.
 pub record Lookable (opened : ℕ) (table desks : List ℕ) : Type 0 where

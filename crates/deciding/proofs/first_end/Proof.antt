@@ -5,7 +5,7 @@ use mathlib.Core.Path.{_≡_, refl}
 use native.Mathlib.Omega.{arith}
 use lib.ListN.{getD}
 use Rattle.steps.specs.Choice.{endNext}
-use Rattle.deciding.proofs.Desks.{busy-few}
+use Rattle.steps.proofs.Decision.{busy-few}
 use Rattle.deciding.proofs.Ends.{end-more}
 use Rattle.deciding.proofs.first_end.Statement.{statement}
 use Rattle.deciding.proofs.first_end.Tie as tie

@@ -1,15 +1,9 @@
--- `work_on` stores start, slots left and finish of one piece, or nothing where there is no piece.
+-- `work_on` stores start, slots left and finish of one piece.
 use Rattle.steps.specs.Work.{work}
-use Rattle.moving.proofs.Worked.{nobody-works, works-on}
+use Rattle.moving.proofs.Worked.{works-on}
 use borrow.Author.Needs.{needs}
 use Rattle.moving.proofs.work.work_on.Statement.{statement}
 use Rattle.moving.proofs.work.work_on.Tie as tie
-
-returns : tie.Need-returns
-returns c =
-    let a = c .before .args in
-    nobody-works (a .durations .now) (a .t) (a .next) (a .i) (work (a .left .now) (a .start .now) (a .finish .now))
-    (c .if1 .taken)
 
 mul-start-of : tie.Need-mul-start-of
 mul-start-of c = search needs
@@ -65,13 +59,12 @@ mul-finish c = search needs
 element-write-finish : tie.Need-element-write-finish
 element-write-finish c = search needs
 
-returns-2 : tie.Need-returns-2
-returns-2 c =
-    let a = c .before .before .before .before .before .before .before .before .before .args in
+returns : tie.Need-returns
+returns c =
+    let a = c .before .before .before .before .before .before .before .before .args in
     works-on (a .durations .now) (a .t) (a .next) (a .i) (c .before .before .before .before .before .wide .result)
     (c .before .less .result) (c .less2 .result)
     (c .before .before .before .start-of .result) (work (a .left .now) (a .start .now) (a .finish .now))
-    (c .before .before .before .before .before .before .before .before .if1 .left)
     (c .before .before .before .before .before .wide .ensures .0) (c .before .before .before .start-of .ensures)
     (c .before .less .ensures) (c .less2 .ensures)
 
@@ -79,7 +72,6 @@ pub work-on-spec : {M : Type 1} → statement M
 work-on-spec =
     tie.close
     (tie.spec
-    returns
     mul-start-of
     element-copy-out-start-of
     mul-wide
@@ -98,4 +90,4 @@ work-on-spec =
     element-write-left
     mul-finish
     element-write-finish
-    returns-2)
+    returns)
