@@ -95,7 +95,11 @@ fn choose(
             k += 1;
         }
     }
-    Look { opened: kept, count: count, next: next }
+    Look {
+        opened: kept,
+        count: count,
+        next: next,
+    }
 }
 
 // The earlier of a moment and the moment at which piece i would be finished.
@@ -110,7 +114,14 @@ fn earlier_end(t: u32, next: u32, i: usize, left: &[u32; 256]) -> u32
 }
 
 // The earliest of a moment and of the moments at which the chosen pieces would be finished.
-fn first_end(t: u32, next: u32, count: usize, left: &[u32; 256], chosen: &[u16; 32], busy: &[u16; 32]) -> u32
+fn first_end(
+    t: u32,
+    next: u32,
+    count: usize,
+    left: &[u32; 256],
+    chosen: &[u16; 32],
+    busy: &[u16; 32],
+) -> u32
     requires { ⌜ Busy count (now chosen) (now busy) ⌝ }
     ensures { λ r. ⌜ r ≡ endNext t (now (left .entry)) (now (chosen .entry)) (now (busy .entry)) count next ⌝ }
 {
@@ -145,5 +156,9 @@ pub fn decide(
     *chosen = [256; 32];
     let look = choose(t, opened, desks, latests, left, ready, table, chosen, busy);
     let next = first_end(t, look.next, look.count, left, chosen, busy);
-    Look { opened: look.opened, count: look.count, next: next }
+    Look {
+        opened: look.opened,
+        count: look.count,
+        next: next,
+    }
 }

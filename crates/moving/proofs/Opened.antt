@@ -30,8 +30,12 @@ module _ (n opened a : ℕ) (table left waits : List ℕ) (o : Opening n opened 
   waits-on ne = record {
     sized = o .sized;
     waits-sized = length-set waits a (getD waits a 0 - 1) ∙ o .waits-sized;
-    room = omega (arith, o .room, counted-same (λ i. eqb (getD waits i 0) 0) (λ i. eqb (getD fewer i 0) 0) n
-        (λ i h. alike i));
+    room = omega (
+      arith,
+      o .room,
+      counted-same (λ i. eqb (getD waits i 0) 0) (λ i. eqb (getD fewer i 0) 0) n
+          (λ i h. alike i),
+    );
     inside = o .inside;
     idle = λ q h. eqb-true _ 0 (sym (alike (getD table q 0)) ∙ eq-eqb _ 0 (o .idle q h));
     everyone = λ i h z u. o .everyone i h (eqb-true _ 0 (alike i ∙ eq-eqb _ 0 z)) u;

@@ -84,7 +84,18 @@ fn pass_on(
     let mut next = numbers::place(last[p]);
     while 0 < next {
         let k = next - 1;
-        held = pass(k, c, held, desks, befores, afters, handovers, waits, ready, table);
+        held = pass(
+            k,
+            c,
+            held,
+            desks,
+            befores,
+            afters,
+            handovers,
+            waits,
+            ready,
+            table,
+        );
         next = numbers::place(prior[k]);
     }
     held

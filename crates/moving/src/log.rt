@@ -72,7 +72,17 @@ pub fn note_all(
     let mut q = 0;
     while q < count {
         let d = busy[q] as usize;
-        logged = note(d, chosen[d] as usize, t, next, logged, last, piece, from, until);
+        logged = note(
+            d,
+            chosen[d] as usize,
+            t,
+            next,
+            logged,
+            last,
+            piece,
+            from,
+            until,
+        );
         q += 1;
     }
     logged

@@ -5,12 +5,6 @@ use lib.Dec.{eqb}
 use lib.ListN.{getD, set}
 use Rattle.rules.specs.Words.{when}
 
--- Of the first m links, those into piece i.
-unfoldable pub intoOf : List ℕ → ℕ → ℕ → ℕ
-unfolding when
-intoOf afters i zero = 0
-intoOf afters i (suc k) = intoOf afters i k + when (eqb (getD afters k 0) i) 1 0
-
 -- The links' tables, with the desks of the pieces; and the tables that the links change.
 pub record Ties : Type 0 where
   pub desks : List ℕ

@@ -35,9 +35,13 @@ place-requires c κs = tt
 
 loop-holds : tie.Need-loop-holds Inv-loop μ-loop
 loop-holds c =
-    let a = c .before .before .args in
-    (a .m, omega arith, c .place .ensures ∙ c .before .before .pre .1 .0 .ends (a .p) (omega arith), refl,
-    opens-none (a .m) (a .afters .now) (a .opened) (a .table .now) (a .waits .now))
+    let a = c .before .before .args in (
+      a .m,
+      omega arith,
+      c .place .ensures ∙ c .before .before .pre .1 .0 .ends (a .p) (omega arith),
+      refl,
+      opens-none (a .m) (a .afters .now) (a .opened) (a .table .now) (a .waits .now),
+    )
 
 -- The way back from a turn to the entry, and the links' tables there.
 abbrev entry : tie.In-loop Inv-loop μ-loop → tie.Start Inv-loop μ-loop
