@@ -23,7 +23,7 @@ use Rattle.slots.proofs.Growth.{runs-grown}
 use Rattle.steps.specs.Choice.{View, view, Decided, never}
 use Rattle.steps.specs.Handover.{Named, ties, Waiting, waiting, handTo}
 use Rattle.steps.specs.Log.{Log, log, noteTo}
-use Rattle.steps.specs.Opening.{Among, Opening, Lookable}
+use Rattle.steps.specs.Opening.{Among, Opening, Lookable, Kept}
 use Rattle.steps.specs.Tables.{Tables, Listed}
 use Rattle.steps.specs.Work.{Work, work, workTo}
 use Rattle.steps.proofs.Begin.{begun-work, begun-waits, begun-log}
@@ -31,7 +31,7 @@ use Rattle.steps.proofs.Scores.{scores-most}
 use Rattle.steps.proofs.Step.{Held, few-pieces, few-desks, ahead, at-most, within, finished, step}
 use Rattle.steps.proofs.Tables.{jobOf, listed}
 use Rattle.urgency.specs.Plan.{Given, Planned, Begun}
-use Rattle.urgency.proofs.OpenTable.{opening-left}
+use Rattle.urgency.proofs.OpenTable.{opening-kept, opening-left}
 
 module _ (T : Tables) (dues : List ℕ) where
   abbrev pub job : Job
@@ -40,8 +40,13 @@ module _ (T : Tables) (dues : List ℕ) where
   abbrev pub seen : ℕ → Work → Waiting → View
   seen t w s = view t (T .desks) (T .latests) (w .left) (s .ready)
 
-  -- The loop stands at moment t, with the open pieces in their table, none of them finished, and with the next moment and
-  -- the choices decided.
+  -- The loop stands at moment t: the tables hold the plan, and one has the open pieces.
+  pub record Standing (t opened : ℕ) (w : Work) (s : Waiting) (l : Log) (table busy : List ℕ) : Type 0 where
+    pub held : Held job (T .pieces) (T .desks) t w s l
+    pub opening : Opening (T .pieces) opened table (w .left) (s .waits)
+    pub busy-sized : length busy ≡ 32
+
+  -- It is decided: none of the pieces in that table is finished, and the choices and the next moment are made.
   pub record Going (t opened count next : ℕ) (w : Work) (s : Waiting) (l : Log) (table chosen busy : List ℕ) : Type 0 where
     pub held : Held job (T .pieces) (T .desks) t w s l
     pub opening : Opening (T .pieces) opened table (w .left) (s .waits)
@@ -109,6 +114,17 @@ module _ (T : Tables) (dues : List ℕ) where
       few = omega (arith, o .room, counted-most (λ i. eqb (getD waits i 0) 0) (T .pieces), few);
       small = λ q h. omega (arith, o .inside q h, few);
       desk-most = λ q h. desks-few (getD table q 0) (o .inside q h);
+    }
+
+    pub going : (t opened kept count next : ℕ) (w : Work) (s : Waiting) (l : Log) (table table′ chosen busy busy′ : List ℕ)
+        → Standing t opened w s l table busy → Kept (w .left) opened table kept kept table′
+        → Decided (seen t w s) (Among table′ kept) count chosen busy′ next
+        → Going t kept count next w s l table′ chosen busy′
+    going t opened kept count next w s l table table′ chosen busy busy′ h k d = record {
+      held = h .held;
+      opening = opening-kept (T .pieces) opened kept kept table table′ (w .left) (s .waits) k (h .opening);
+      fresh = k .unfinished;
+      decided = d;
     }
 
     module _ (t opened count next : ℕ) (w : Work) (s : Waiting) (l : Log) (table chosen busy : List ℕ)

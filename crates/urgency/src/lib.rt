@@ -75,21 +75,24 @@ pub fn plan(
     begin(n, durations, releases, &mut left, &mut ready, start, finish);
     links::queue::count_into(afters, m, &mut waits);
     links::chains::chain_links(befores, m, &mut tail, &mut prior);
-    let free = links::queue::place_free(n, &waits, &mut table);
+    let mut opened = links::queue::place_free(n, &waits, &mut table);
     let mut runs = 0;
     let mut t = 0;
-    let mut look = deciding::decide(
-        t,
-        free,
-        desks,
-        latests,
-        &left,
-        &ready,
-        &mut table,
-        &mut chosen,
-        &mut busy,
-    );
-    while look.next < deciding::NEVER {
+    loop {
+        let look = deciding::decide(
+            t,
+            opened,
+            desks,
+            latests,
+            &left,
+            &ready,
+            &mut table,
+            &mut chosen,
+            &mut busy,
+        );
+        if deciding::NEVER <= look.next {
+            return runs;
+        }
         work::work_all(
             t,
             look.next,
@@ -113,7 +116,7 @@ pub fn plan(
             from,
             until,
         );
-        let opened = handover::hand_all(
+        opened = handover::hand_all(
             m,
             look.next,
             look.opened,
@@ -132,17 +135,5 @@ pub fn plan(
             &mut table,
         );
         t = look.next;
-        look = deciding::decide(
-            t,
-            opened,
-            desks,
-            latests,
-            &left,
-            &ready,
-            &mut table,
-            &mut chosen,
-            &mut busy,
-        );
     }
-    runs
 }
