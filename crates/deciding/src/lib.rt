@@ -2,7 +2,7 @@
 // anew. It looks at the open pieces alone, those in the first places of `table`, and drops the finished ones of them.
 // 256 stands for no piece, and 4,294,967,295 for no later moment.
 ghost use mathlib.Core.Path.{_≡_};
-ghost use Prim.Native.Nat.{ℕ, _+_, _<_, _≤_, min};
+ghost use Prim.Native.Nat.{ℕ, _<_, _≤_};
 ghost use lib.ListN.{length, getD};
 ghost use Rattle.steps.specs.Choice.{view, goesFirst, picks, offered, Busy, endNext, LookedAt, Decided};
 ghost use Rattle.steps.specs.Opening.{Among, Lookable, Kept};
@@ -102,17 +102,6 @@ fn choose(
     }
 }
 
-// The earlier of a moment and the moment at which piece i would be finished.
-fn earlier_end(t: u32, next: u32, i: usize, left: &[u32; 256]) -> u32
-    requires { ⌜ i < 256 ⌝ }
-    ensures { λ r. ⌜ r ≡ min next (t + getD (now (left .entry)) i 0) ⌝ }
-{
-    if left[i] < numbers::less(next, t) {
-        return t + left[i];
-    }
-    next
-}
-
 // The earliest of a moment and of the moments at which the chosen pieces would be finished.
 fn first_end(
     t: u32,
@@ -123,16 +112,18 @@ fn first_end(
     busy: &[u16; 32],
 ) -> u32
     requires { ⌜ Busy count (now chosen) (now busy) ⌝ }
+    requires { ⌜ t ≤ next ⌝ }
     ensures { λ r. ⌜ r ≡ endNext t (now (left .entry)) (now (chosen .entry)) (now (busy .entry)) count next ⌝ }
 {
-    let mut least = next;
+    let mut slots = next - t;
     let mut q = 0;
     while q < count {
         let d = busy[q] as usize;
-        least = earlier_end(t, least, chosen[d] as usize, left);
+        let i = chosen[d] as usize;
+        slots = numbers::lesser(slots, left[i]);
         q += 1;
     }
-    least
+    t + slots
 }
 
 // Chooses for every desk and gives the next decision moment.
@@ -148,7 +139,7 @@ pub fn decide(
     busy: &mut [u16; 32],
 ) -> Look
     requires { ⌜ Lookable opened (now table) (now desks) ⌝ }
-    requires { ⌜ length (now busy) ≡ 32 ⌝ }
+    requires { ⌜ (length (now busy) ≡ 32) × (t < 4294967295) ⌝ }
     ensures { λ r. ⌜ Kept (now (left .entry)) opened (now (table .entry)) (r .opened) (r .opened) (now (table .exit))
         × Decided (view t (now (desks .entry)) (now (latests .entry)) (now (left .entry)) (now (ready .entry)))
         (Among (now (table .exit)) (r .opened)) (r .count) (now (chosen .exit)) (now (busy .exit)) (r .next) ⌝ }

@@ -10,8 +10,9 @@ use Rattle.steps.specs.Work.{Work, work, forth, workTo}
 
 module _ (durations : List ℕ) (t next : ℕ) where
   -- The three stores, with what the code computed for them.
-  pub works-on : (i u k l s : ℕ) (w : Work) → u ≡ getD durations i 0 → s ≡ when (eqb (getD (w .left) i 0) u) t (getD (w .start) i 0) → k ≡ next - t → l ≡ getD (w .left) i 0 - k
-      → work (set (w .left) i l) (set (w .start) i s) (set (w .finish) i next) ≡ forth durations t next i w
+  pub works-on : (i u k l : ℕ) (s : List ℕ) (w : Work) → u ≡ getD durations i 0
+      → s ≡ when (eqb (getD (w .left) i 0) u) (set (w .start) i t) (w .start) → k ≡ next - t → l ≡ getD (w .left) i 0 - k
+      → work (set (w .left) i l) s (set (w .finish) i next) ≡ forth durations t next i w
   works-on i u k l s w f a b e = rw (a, f, e, b)
 
   pub work-more : (chosen busy : List ℕ) (q : ℕ) (w v r : Work) → v ≡ workTo durations t next chosen busy q w

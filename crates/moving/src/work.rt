@@ -2,15 +2,19 @@
 ghost use mathlib.Core.Path.{_≡_};
 ghost use Prim.Native.Nat.{_<_};
 ghost use lib.Dec.{eqb};
+ghost use lib.ListN.{set};
 ghost use Rattle.rules.specs.Words.{when};
 ghost use Rattle.steps.specs.Choice.{Busy};
 ghost use Rattle.steps.specs.Work.{work, forth, workTo};
 
-// The start of a piece with so much left of its whole duration: this moment if nothing was worked off it yet.
-fn start_of(left: u32, whole: u32, t: u32, start: u32) -> u32
-    ensures { λ r. ⌜ r ≡ when (eqb left whole) t start ⌝ }
+// Piece i, with so much left of its whole duration, starts at this moment if nothing was worked off it yet.
+fn starts(i: usize, left: u32, whole: u32, t: u32, start: &mut [u32; 256])
+    requires { ⌜ i < 256 ⌝ }
+    ensures { λ _. ⌜ now (start .exit) ≡ when (eqb left whole) (set (now (start .entry)) i t) (now (start .entry)) ⌝ }
 {
-    if left == whole { t } else { start }
+    if left == whole {
+        start[i] = t;
+    }
 }
 
 // Piece i is worked on from moment t until moment `next`.
@@ -28,7 +32,7 @@ fn work_on(
         ≡ forth (now (durations .entry)) t next i
         (work (now (left .entry)) (now (start .entry)) (now (finish .entry))) ⌝ }
 {
-    start[i] = start_of(left[i], numbers::wide(durations[i]), t, start[i]);
+    starts(i, left[i], numbers::wide(durations[i]), t, start);
     left[i] = numbers::less(left[i], numbers::less(next, t));
     finish[i] = next;
 }

@@ -48,6 +48,21 @@ stored T n i x f g b h e o j l = by-test (eqb j i)
     (λ q. let z : j ≡ i = eqb-true j i q in rw (z, getD-set-same T i x 0 b) e)
     (λ q. let ne = eqb-false j i q in getD-set-other T i j x 0 ne ∙ h j l ∙ o j l ne)
 
+-- The same where it is stored only if a test holds.
+stored-if : (b : Bool) (T : List ℕ) (n i x : ℕ) (f g : ℕ → ℕ) → i < length T → ((j : ℕ) → j < n → getD T j 0 ≡ f j)
+    → when b x (f i) ≡ g i → ((j : ℕ) → j < n → (j ≡ i → ⊥) → f j ≡ g j) → (j : ℕ) → j < n
+    → getD (when b (set T i x) T) j 0 ≡ g j
+unfolding when
+stored-if b T n i x f g l h e o j m = by-test b
+    (λ t. rw t (stored T n i x f g l h (rw t at e) o j m))
+    (λ t. rw t (h j m ∙ by-test (eqb j i)
+    (λ q. let z : j ≡ i = eqb-true j i q in rw z (rw t at e))
+    (λ q. o j m (eqb-false j i q))))
+
+sized-if : (b : Bool) (T : List ℕ) (i x : ℕ) → length (when b (set T i x) T) ≡ length T
+unfolding when
+sized-if b T i x = by-test b (λ t. rw t (length-set T i x)) (λ t. rw t)
+
 module _ (J : Job) (sound : Sound J) (n : ℕ) (durations : List ℕ) (t u k : ℕ) (e : t + k ≡ u) (p : 0 < k)
     (s : Stretch J t k) (count : pieceCount J ≡ n) (few : n ≤ 256)
     (duration-is : (i : ℕ) → i < n → duration J i ≡ getD durations i 0) where
@@ -65,19 +80,18 @@ module _ (J : Job) (sound : Sound J) (n : ℕ) (durations : List ℕ) (t u k : �
       let others : (j : ℕ) → (j ≡ i → ⊥) → P j ≡ Q j =
       λ j ne. sym (unmoved J sound t u k e s M d new j (λ z. ne (some-inj (sym z ∙ q)))) in
       let whole : getD (w .left) i 0 ≡ at J t i .left = h .left-is i inside ∙ ap (λ r. r .left) from in
-      let first : getD (w .start) i 0 ≡ at J t i .start = h .start-is i inside ∙ ap (λ r. r .start) from in
+      let first : P i .start ≡ at J t i .start = ap (λ r. r .start) from in
+      let test : Bool = eqb (getD (w .left) i 0) (getD durations i 0) in
       let slots : u - t ≡ k = omega arith in
       record {
         left-sized = length-set (w .left) i (getD (w .left) i 0 - (u - t)) ∙ h .left-sized;
-        start-sized = length-set (w .start) i (when (eqb (getD (w .left) i 0) (getD durations i 0)) t
-            (getD (w .start) i 0)) ∙ h .start-sized;
+        start-sized = sized-if test (w .start) i t ∙ h .start-sized;
         finish-sized = length-set (w .finish) i u ∙ h .finish-sized;
         left-is = stored (w .left) n i (getD (w .left) i 0 - (u - t)) (λ j. P j .left) (λ j. Q j .left)
             (omega (arith, h .left-sized)) (h .left-is) (rw (whole, slots) (sym (ap (λ r. r .left) to)))
             (λ j l ne. ap (λ r. r .left) (others j ne));
-        start-is = stored (w .start) n i (when (eqb (getD (w .left) i 0) (getD durations i 0)) t (getD (w .start) i 0))
-            (λ j. P j .start) (λ j. Q j .start) (omega (arith, h .start-sized)) (h .start-is)
-            (rw (whole, first, ← duration-is i inside) (sym (ap (λ r. r .start) to)))
+        start-is = stored-if test (w .start) n i t (λ j. P j .start) (λ j. Q j .start) (omega (arith, h .start-sized))
+            (h .start-is) (rw (whole, first, ← duration-is i inside) (sym (ap (λ r. r .start) to)))
             (λ j l ne. ap (λ r. r .start) (others j ne));
         finish-is = stored (w .finish) n i u (λ j. P j .finish) (λ j. Q j .finish)
             (omega (arith, h .finish-sized)) (h .finish-is) (sym e ∙ sym (ap (λ r. r .finish) to))

@@ -19,7 +19,7 @@ module _ (durations : List ℕ) (t next : ℕ) where
   abbrev pub forth : ℕ → Work → Work
   forth i w = record {
     left = set (w .left) i (getD (w .left) i 0 - (next - t));
-    start = set (w .start) i (when (eqb (getD (w .left) i 0) (getD durations i 0)) t (getD (w .start) i 0));
+    start = when (eqb (getD (w .left) i 0) (getD durations i 0)) (set (w .start) i t) (w .start);
     finish = set (w .finish) i next;
   }
 

@@ -106,7 +106,10 @@ module _ (T : Tables) (dues : List ℕ) where
           refl ls ps fs us l;
     }
 
-    -- The table may be looked at.
+    -- No moment of the plan is the last that a number can say, and the table may be looked at.
+    pub in-time : (t : ℕ) (w : Work) (s : Waiting) (l : Log) → Held job (T .pieces) (T .desks) t w s l → t < never
+    in-time t w s l h = omega (arith, h .in-time, horizon-most job (g .sound) (g .free))
+
     pub lookable : (opened : ℕ) (table left waits : List ℕ) → Opening (T .pieces) opened table left waits
         → Lookable opened table (T .desks)
     lookable opened table left waits o = record {

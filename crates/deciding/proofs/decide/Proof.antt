@@ -1,6 +1,7 @@
 -- `decide` clears the choices, looks at the open pieces and then at the ends of those chosen: together that is the whole
 -- decision.
 use mathlib.Core.Path.{refl}
+use native.Mathlib.Omega.{arith}
 use borrow.Author.Needs.{needs}
 use lib.ListN.{getD-replicate}
 use Rattle.deciding.proofs.decide.Statement.{statement}
@@ -9,10 +10,14 @@ use Rattle.deciding.proofs.decide.Tie as tie
 choose-requires : tie.Need-choose-requires
 choose-requires c κs =
     let s = c .before .before .before .before in
-    (s .pre .0, (s .pre .1, refl, λ d h. getD-replicate 32 d 256 0 h))
+    (s .pre .0, (s .pre .1 .0, refl, λ d h. getD-replicate 32 d 256 0 h))
 
 first-end-requires : tie.Need-first-end-requires
-first-end-requires c κs = search needs
+first-end-requires c κs =
+    let k = c .before .before in
+    let s = k .before .before .before .before .before in
+    let l = k .choose .ensures .1 in
+    (l .working, omega (arith, l .later .above (s .pre .1 .1)))
 
 returns : tie.Need-returns
 returns c = search needs

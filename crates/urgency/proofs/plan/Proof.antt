@@ -13,7 +13,7 @@ use Rattle.steps.specs.Tables.{Tables}
 use Rattle.steps.specs.Work.{Work, work}
 use Rattle.steps.proofs.Tables.{jobOf}
 use Rattle.urgency.proofs.OpenTable.{opening-first}
-use Rattle.urgency.proofs.Planned.{Standing, Going, going, few, named, after-inside, lookable, before-first, next-ahead, next-within, next-small, goes, opening-then, planned}
+use Rattle.urgency.proofs.Planned.{Standing, Going, going, in-time, few, named, after-inside, lookable, before-first, next-ahead, next-within, next-small, goes, opening-then, planned}
 use Rattle.urgency.proofs.plan.Statement.{statement}
 use Rattle.urgency.proofs.plan.Tie as tie
 
@@ -103,7 +103,6 @@ place-free-requires c κs =
     let s = counted .before .before .before .before .before .before .before in
     (few (lent s) (s .args .dues .now) (s .pre .0), counted .count-into .ensures .sized, refl)
 
-
 -- The way back from a turn's beginning to the table's first pieces, and from there to the links counted and to the entry.
 abbrev counted : tie.After-place-free Inv-loop μ-loop → tie.After-count-into Inv-loop μ-loop
 counted c = c .before .before .before .before .before .before
@@ -128,9 +127,10 @@ loop-holds c =
 decide-requires : tie.Need-decide-requires Inv-loop μ-loop
 decide-requires c κs =
     let s = entry (c .before .before .before .before .before .before) in
-    let l = c .before .before .before .before .before .loop in
-    (lookable (lent s) (s .args .dues .now) (s .pre .0) (l .opened) (l .table) (l .left) (l .waits) (l .inv .opening),
-    l .inv .busy-sized)
+    let l = c .before .before .before .before .before .loop in (
+      lookable (lent s) (s .args .dues .now) (s .pre .0) (l .opened) (l .table) (l .left) (l .waits) (l .inv .opening),
+      (l .inv .busy-sized, in-time (lent s) (s .args .dues .now) (s .pre .0) (l .t) _ _ _ (l .inv .held)),
+    )
 
 -- What the loop has at a turn's beginning.
 abbrev turn : tie.After-decide Inv-loop μ-loop → tie.At-loop Inv-loop μ-loop
