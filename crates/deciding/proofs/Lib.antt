@@ -1,3 +1,5 @@
--- How the definitions over the tables go on by one piece or desk, and by the ways the code takes.
-pub mod Turns
-pub mod Considered
+-- What a look at the open pieces makes of the tables, piece by piece.
+pub mod Keeping
+pub mod Desks
+pub mod Looking
+pub mod Ends

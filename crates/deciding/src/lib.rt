@@ -1,133 +1,155 @@
 // One decision of the plan over lent tables: who every desk works on from a moment on, and until when nothing is decided
-// anew. 256 stands for no piece, and 4,294,967,295 for no later moment.
+// anew. It looks at the open pieces alone, those in the first places of `table`, and drops the finished ones of them.
+// 256 stands for no piece, and 4,294,967,295 for no later moment.
 ghost use mathlib.Core.Path.{_≡_};
 ghost use Prim.Native.Nat.{ℕ, _<_, _≤_};
-ghost use lib.ListN.{getD};
-ghost use Rattle.steps.specs.Choice.{view, goesFirst, offered, endWith, endNext, Considered, LookedAt, Decided};
+ghost use lib.ListN.{length, getD};
+ghost use Rattle.steps.specs.Choice.{view, goesFirst, picks, offered, Busy, endNext, LookedAt, Decided};
+ghost use Rattle.steps.specs.Opening.{Among, Lookable, Kept};
 
 // No later moment.
 pub const NEVER: u32 = 4294967295;
 
-// Piece i goes before the piece that was best so far, 256 where there was none. The pieces come in rising order, so on an
-// equal latest moment the one so far has the lower number and stays.
-fn goes_first(latests: &[i32; 256], i: usize, so_far: usize) -> bool
-    requires { ⌜ i < 256 ⌝ }
-    ensures { λ r. ⌜ r ≡ goesFirst (now (latests .entry)) i «so_far» ⌝ }
-{
-    if so_far < 256 {
-        return latests[i] < latests[so_far];
-    }
-    true
+// What a look at the open pieces finds: how many are left of them, how many desks work, and the next moment.
+pub struct Look {
+    pub opened: usize,
+    pub count: usize,
+    pub next: u32,
 }
 
-// Piece i is put up for desk d.
-fn offer(i: usize, d: usize, latests: &[i32; 256], chosen: &mut [usize; 32])
-    requires { ⌜ (i < 256) × (d < 32) ⌝ }
-    ensures { λ _. ⌜ now (chosen .exit) ≡ offered (now (latests .entry)) i d (now (chosen .entry)) ⌝ }
+// Piece i goes before piece x: by the latest moment, and on an equal one by the number.
+fn goes_first(latests: &[i32; 256], i: usize, x: usize) -> bool
+    requires { ⌜ (i < 256) × (x < 256) ⌝ }
+    ensures { λ r. ⌜ r ≡ goesFirst (now (latests .entry)) i x ⌝ }
 {
-    if goes_first(latests, i, chosen[d]) {
-        chosen[d] = i;
+    let a = latests[i];
+    let b = latests[x];
+    if a < b {
+        return true;
     }
+    if b < a {
+        return false;
+    }
+    i < x
 }
 
-// Looks at one piece: if it is ready it is put up for its desk, and if it is to be ready later that moment counts.
-fn consider(
+// Piece i is put up for desk d. A desk that nobody asked for yet joins those that work.
+fn offer(
     i: usize,
-    t: u32,
-    next: u32,
-    desks: &[u8; 256],
+    d: usize,
+    count: usize,
     latests: &[i32; 256],
-    left: &[u32; 256],
-    waits: &[u32; 256],
-    ready: &[u32; 256],
-    chosen: &mut [usize; 32],
-) -> u32
-    requires { ⌜ (i < 256) × (getD (now desks) i 0 < 32) ⌝ }
-    ensures { λ r. ⌜ Considered (view t (now (desks .entry)) (now (latests .entry)) (now (left .entry))
-        (now (waits .entry)) (now (ready .entry)))
-        i (now (chosen .entry)) next (now (chosen .exit)) r ⌝ }
+    chosen: &mut [u16; 32],
+    busy: &mut [u16; 32],
+) -> usize
+    requires { ⌜ (i < 256) × (d < 32) × (255 < getD (now chosen) d 0 → count < 32) ⌝ }
+    ensures { λ r. ⌜ picks r (now (chosen .exit)) (now (busy .exit))
+        ≡ offered (now (latests .entry)) i d (picks count (now (chosen .entry)) (now (busy .entry))) ⌝ }
 {
-    if left[i] == 0 {
-        return next;
+    let x = numbers::place(chosen[d]);
+    if 255 < x {
+        chosen[d] = i as u16;
+        busy[count] = d as u16;
+        return count + 1;
     }
-    if 0 < waits[i] {
-        return next;
+    if goes_first(latests, i, x) {
+        chosen[d] = i as u16;
     }
-    if t < ready[i] {
-        return numbers::lesser(next, ready[i]);
-    }
-    offer(i, desks[i] as usize, latests, chosen);
-    next
+    count
 }
 
-// One pass over the pieces: chooses for every desk, and gives the first later moment at which a piece becomes ready.
+// One pass over the open pieces: chooses for every desk, and gives the first later moment at which a piece becomes
+// ready. The last piece takes the place of one that is finished.
 fn choose(
-    n: usize,
     t: u32,
+    opened: usize,
     desks: &[u8; 256],
     latests: &[i32; 256],
     left: &[u32; 256],
-    waits: &[u32; 256],
     ready: &[u32; 256],
-    chosen: &mut [usize; 32],
-) -> u32
-    requires { ⌜ (n ≤ 256) × ((i : ℕ) → i < n → getD (now desks) i 0 < 32) ⌝ }
-    ensures { λ r. ⌜ LookedAt (view t (now (desks .entry)) (now (latests .entry)) (now (left .entry))
-        (now (waits .entry)) (now (ready .entry)))
-        n (now (chosen .entry)) (now (chosen .exit)) r ⌝ }
+    table: &mut [u16; 256],
+    chosen: &mut [u16; 32],
+    busy: &mut [u16; 32],
+) -> Look
+    requires { ⌜ Lookable opened (now table) (now desks) ⌝ }
+    requires { ⌜ (length (now busy) ≡ 32) × (length (now chosen) ≡ 32)
+        × ((d : ℕ) → d < 32 → getD (now chosen) d 0 ≡ 256) ⌝ }
+    ensures { λ r. ⌜ Kept (now (left .entry)) opened (now (table .entry)) (r .opened) (r .opened) (now (table .exit))
+        × LookedAt (view t (now (desks .entry)) (now (latests .entry)) (now (left .entry)) (now (ready .entry)))
+        (Among (now (table .exit)) (r .opened)) (r .count) (now (chosen .exit)) (now (busy .exit)) (r .next) ⌝ }
 {
+    let mut kept = opened;
+    let mut count = 0;
     let mut next = NEVER;
-    let mut i = 0;
-    while i < n {
-        next = consider(i, t, next, desks, latests, left, waits, ready, chosen);
-        i += 1;
+    let mut k = 0;
+    while k < kept {
+        let i = table[k] as usize;
+        if left[i] == 0 {
+            kept -= 1;
+            table[k] = table[kept];
+        } else if t < ready[i] {
+            next = numbers::lesser(next, ready[i]);
+            k += 1;
+        } else {
+            count = offer(i, desks[i] as usize, count, latests, chosen, busy);
+            k += 1;
+        }
     }
-    next
-}
-
-// The earlier of a moment and the moment at which piece i would be finished.
-fn earlier_end(t: u32, next: u32, i: usize, left: &[u32; 256]) -> u32
-    ensures { λ r. ⌜ r ≡ endWith t (now (left .entry)) i next ⌝ }
-{
-    if 255 < i {
-        return next;
+    Look {
+        opened: kept,
+        count: count,
+        next: next,
     }
-    if left[i] < numbers::less(next, t) {
-        return t + left[i];
-    }
-    next
 }
 
 // The earliest of a moment and of the moments at which the chosen pieces would be finished.
-fn first_end(t: u32, next: u32, left: &[u32; 256], chosen: &[usize; 32]) -> u32
-    ensures { λ r. ⌜ r ≡ endNext t (now (left .entry)) (now (chosen .entry)) 32 next ⌝ }
+fn first_end(
+    t: u32,
+    next: u32,
+    count: usize,
+    left: &[u32; 256],
+    chosen: &[u16; 32],
+    busy: &[u16; 32],
+) -> u32
+    requires { ⌜ Busy count (now chosen) (now busy) ⌝ }
+    requires { ⌜ t ≤ next ⌝ }
+    ensures { λ r. ⌜ r ≡ endNext t (now (left .entry)) (now (chosen .entry)) (now (busy .entry)) count next ⌝ }
 {
-    let mut least = next;
-    let mut d = 0;
-    while d < 32 {
-        least = earlier_end(t, least, chosen[d], left);
-        d += 1;
+    let mut slots = next - t;
+    let mut q = 0;
+    while q < count {
+        let d = busy[q] as usize;
+        let i = chosen[d] as usize;
+        slots = numbers::lesser(slots, left[i]);
+        q += 1;
     }
-    least
+    t + slots
 }
 
 // Chooses for every desk and gives the next decision moment.
 pub fn decide(
-    n: usize,
     t: u32,
+    opened: usize,
     desks: &[u8; 256],
     latests: &[i32; 256],
     left: &[u32; 256],
-    waits: &[u32; 256],
     ready: &[u32; 256],
-    chosen: &mut [usize; 32],
-) -> u32
-    requires { ⌜ (n ≤ 256) × ((i : ℕ) → i < n → getD (now desks) i 0 < 32) ⌝ }
-    ensures { λ r. ⌜ Decided (view t (now (desks .entry)) (now (latests .entry)) (now (left .entry))
-        (now (waits .entry)) (now (ready .entry)))
-        n (now (chosen .exit)) r ⌝ }
+    table: &mut [u16; 256],
+    chosen: &mut [u16; 32],
+    busy: &mut [u16; 32],
+) -> Look
+    requires { ⌜ Lookable opened (now table) (now desks) ⌝ }
+    requires { ⌜ (length (now busy) ≡ 32) × (t < 4294967295) ⌝ }
+    ensures { λ r. ⌜ Kept (now (left .entry)) opened (now (table .entry)) (r .opened) (r .opened) (now (table .exit))
+        × Decided (view t (now (desks .entry)) (now (latests .entry)) (now (left .entry)) (now (ready .entry)))
+        (Among (now (table .exit)) (r .opened)) (r .count) (now (chosen .exit)) (now (busy .exit)) (r .next) ⌝ }
 {
     *chosen = [256; 32];
-    let later = choose(n, t, desks, latests, left, waits, ready, chosen);
-    first_end(t, later, left, chosen)
+    let look = choose(t, opened, desks, latests, left, ready, table, chosen, busy);
+    let next = first_end(t, look.next, look.count, left, chosen, busy);
+    Look {
+        opened: look.opened,
+        count: look.count,
+        next: next,
+    }
 }

@@ -1,5 +1,5 @@
 -- How the definitions over the tables go on by one desk or link, and by the ways the code takes.
 pub mod Worked
 pub mod Noted
-pub mod Counted
 pub mod Passed
+pub mod Opened

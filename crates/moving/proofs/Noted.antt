@@ -30,29 +30,22 @@ module _ (piece until : List ℕ) (k i t : ℕ) where
   stays-inside e = ltb-true k 512 (and-true (ltb k 512) _ (and-true (ltb k 512 && eqb (getD piece k 0) i) _ e .0) .0)
 
 module _ (t next d i : ℕ) (l : Log) where
-  pub nobody-noted : 255 < i → l ≡ noteOn t next d i l
-  unfolding noteOn
-  nobody-noted h = sym (when-false _ _ _ (le-ltb i 256 h))
-
-  pub run-longer : i ≤ 255 → stays (l .piece) (l .until) (getD (l .last) d 0) i t ≡ true
+  pub run-longer : stays (l .piece) (l .until) (getD (l .last) d 0) i t ≡ true
       → lengthened t next (getD (l .last) d 0) l ≡ noteOn t next d i l
   unfolding noteOn
-  run-longer h e = sym (when-true _ _ _ (lt-ltb i 256 (omega arith)) ∙ when-true _ _ _ e)
+  run-longer e = sym (when-true _ _ _ e)
 
-  pub log-full : i ≤ 255 → stays (l .piece) (l .until) (getD (l .last) d 0) i t ≡ false → 511 < l .runs
+  pub log-full : stays (l .piece) (l .until) (getD (l .last) d 0) i t ≡ false → 511 < l .runs
       → l ≡ noteOn t next d i l
   unfolding noteOn
-  log-full h e k =
-      sym (when-true _ _ _ (lt-ltb i 256 (omega arith)) ∙ when-false _ _ _ e ∙ when-false _ _ _ (le-ltb (l .runs) 512 k))
+  log-full e k = sym (when-false _ _ _ e ∙ when-false _ _ _ (le-ltb (l .runs) 512 k))
 
-  pub run-begins : i ≤ 255 → stays (l .piece) (l .until) (getD (l .last) d 0) i t ≡ false → l .runs ≤ 511
+  pub run-begins : stays (l .piece) (l .until) (getD (l .last) d 0) i t ≡ false → l .runs ≤ 511
       → begun t next d i l ≡ noteOn t next d i l
   unfolding noteOn
-  run-begins h e k =
-      sym (when-true _ _ _ (lt-ltb i 256 (omega arith)) ∙ when-false _ _ _ e
-      ∙ when-true _ _ _ (lt-ltb (l .runs) 512 (omega arith)))
+  run-begins e k = sym (when-false _ _ _ e ∙ when-true _ _ _ (lt-ltb (l .runs) 512 (omega arith)))
 
-pub note-more : (t next : ℕ) (chosen : List ℕ) (d : ℕ) (l k r : Log) → k ≡ noteTo t next chosen d l
-    → r ≡ noteOn t next d (getD chosen d 0) k → r ≡ noteTo t next chosen (d + 1) l
+pub note-more : (t next : ℕ) (chosen busy : List ℕ) (q : ℕ) (l k r : Log) → k ≡ noteTo t next chosen busy q l
+    → r ≡ noteOn t next (getD busy q 0) (getD chosen (getD busy q 0) 0) k → r ≡ noteTo t next chosen busy (q + 1) l
 unfolding noteTo
-note-more t next chosen d l k r a b = rw (add-one d, ← a) b
+note-more t next chosen busy q l k r a b = rw (add-one q, ← a) b

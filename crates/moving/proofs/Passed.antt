@@ -1,12 +1,11 @@
 -- A finished piece's links, followed along their chain: from one link of the piece to the next nothing else changes.
 use Prim.Native.Nat.{ℕ, zero, suc, _+_, _-_, _≤_, _<_, max}
-use mathlib.Core.Bool.{_&&_}
 use mathlib.Core.List.{List}
 use mathlib.Core.Path.{_≡_, refl, sym, _∙_}
 use native.Mathlib.Numerals.{add-one}
 use native.Mathlib.Omega.{arith}
-use borrow.Author.Tests.{eqb-true, eq-eqb, ne-eqb, lt-ltb, le-ltb}
-use lib.Dec.{ltb, eqb}
+use borrow.Author.Tests.{eqb-true, eq-eqb, ne-eqb}
+use lib.Dec.{eqb}
 use lib.ListN.{getD, set}
 use Rattle.rules.specs.Words.{when}
 use Rattle.laws.proofs.Words.{by-test, when-true, when-false}
@@ -58,24 +57,16 @@ delay-is l k h d e f = f ∙ rw e
 
 -- A piece that was worked on, by the ways the code takes, and one desk more.
 module _ (l : Ties) (m c : ℕ) (left : List ℕ) where
-  pub nobody-hands : (i : ℕ) (s : Waiting) → 255 < i → s ≡ handOn l m c left i s
+  pub unfinished-hands : (i : ℕ) (s : Waiting) → 0 < getD left i 0 → s ≡ handOn l m c left i s
   unfolding handOn
-  nobody-hands i s h = sym (when-false (ltb i 256 && eqb (getD left i 0) 0) _ _ (rw (le-ltb i 256 h)))
+  unfinished-hands i s u =
+      sym (when-false _ _ _ (ne-eqb (getD left i 0) 0 (λ (z : getD left i 0 ≡ 0). omega arith)))
 
-  pub unfinished-hands : (i : ℕ) (s : Waiting) → i ≤ 255 → 0 < getD left i 0 → s ≡ handOn l m c left i s
+  pub finished-hands : (i : ℕ) (s r : Waiting) → getD left i 0 ≤ 0 → r ≡ passFrom l i c m s → r ≡ handOn l m c left i s
   unfolding handOn
-  unfinished-hands i s h u =
-      sym (when-false (ltb i 256 && eqb (getD left i 0) 0) _ _
-      (rw (lt-ltb i 256 (omega arith)) (ne-eqb (getD left i 0) 0 (λ (z : getD left i 0 ≡ 0). omega arith))))
+  finished-hands i s r u e = e ∙ sym (when-true _ _ _ (eq-eqb (getD left i 0) 0 (omega arith)))
 
-  pub finished-hands : (i : ℕ) (s r : Waiting) → i ≤ 255 → getD left i 0 ≤ 0 → r ≡ passFrom l i c m s
-      → r ≡ handOn l m c left i s
-  unfolding handOn
-  finished-hands i s r h u e =
-      e ∙ sym (when-true (ltb i 256 && eqb (getD left i 0) 0) (passFrom l i c m s) s
-      (rw (lt-ltb i 256 (omega arith)) (eq-eqb (getD left i 0) 0 (omega arith))))
-
-  pub hand-more : (chosen : List ℕ) (d : ℕ) (s q r : Waiting) → q ≡ handTo l m c left chosen d s
-      → r ≡ handOn l m c left (getD chosen d 0) q → r ≡ handTo l m c left chosen (d + 1) s
+  pub hand-more : (chosen busy : List ℕ) (d : ℕ) (s q r : Waiting) → q ≡ handTo l m c left chosen busy d s
+      → r ≡ handOn l m c left (getD chosen (getD busy d 0) 0) q → r ≡ handTo l m c left chosen busy (d + 1) s
   unfolding handTo
-  hand-more chosen d s q r a b = rw (add-one d, ← a) b
+  hand-more chosen busy d s q r a b = rw (add-one d, ← a) b

@@ -1,27 +1,15 @@
 // What the links do to the pieces: how many unfinished pieces a piece waits for, and from when on it may be ready. A link
-// is looked at once, when the piece before it is finished.
+// is looked at once, when the piece before it is finished; a piece that waits for none any more is open, and is put
+// behind the open pieces in `table`.
 ghost use mathlib.Core.Path.{_≡_};
-ghost use Prim.Native.Nat.{ℕ, _<_, _≤_};
+ghost use Prim.Native.Nat.{ℕ, _+_, _<_, _≤_};
 ghost use lib.Dec.{eqb};
-ghost use lib.ListN.{length, getD};
+ghost use lib.ListN.{getD};
 ghost use Rattle.rules.specs.Words.{when};
 ghost use Rattle.links.specs.Chains.{Chained};
-ghost use Rattle.steps.specs.Handover.{intoOf, Named, ties, waiting, passed, passFrom, handOn, handTo};
-
-// Counts for every piece the links into it.
-pub fn count(m: usize, afters: &[u16; 1024], waits: &mut [u32; 256])
-    requires { ⌜ (m ≤ 1024) × ((k : ℕ) → k < m → getD (now afters) k 0 < 256) ⌝ }
-    requires { ⌜ (length (now waits) ≡ 256) × ((i : ℕ) → i < 256 → getD (now waits) i 0 ≡ 0) ⌝ }
-    ensures { λ _. ⌜ (length (now (waits .exit)) ≡ 256)
-        × ((i : ℕ) → i < 256 → getD (now (waits .exit)) i 0 ≡ intoOf (now (afters .entry)) i m) ⌝ }
-{
-    let mut k = 0;
-    while k < m {
-        let a = afters[k] as usize;
-        waits[a] = waits[a] + 1;
-        k += 1;
-    }
-}
+ghost use Rattle.steps.specs.Choice.{Busy};
+ghost use Rattle.steps.specs.Handover.{Named, ties, waiting, passed, passFrom, handOn, handTo};
+ghost use Rattle.steps.specs.Opening.{Room, Opens};
 
 // The delay of a link: nothing on one desk.
 fn delay(before: u8, after: u8, handover: u32) -> u32
@@ -34,25 +22,36 @@ fn delay(before: u8, after: u8, handover: u32) -> u32
 fn pass(
     k: usize,
     c: u32,
+    opened: usize,
     desks: &[u8; 256],
     befores: &[u16; 1024],
     afters: &[u16; 1024],
     handovers: &[u16; 1024],
-    waits: &mut [u32; 256],
+    waits: &mut [u16; 256],
     ready: &mut [u32; 256],
-)
-    requires { ⌜ (k < 1024) × (getD (now befores) k 0 < 256) × (getD (now afters) k 0 < 256) × (c < 4000000000) ⌝ }
+    table: &mut [u16; 256],
+) -> usize
+    requires { ⌜ (k < 1024) × (getD (now befores) k 0 < 256) × (c < 4000000000) ⌝ }
+    requires { ⌜ Room (k + 1) (now afters) opened (now table) (now waits) ⌝ }
     ensures { λ _. ⌜ waiting (now (waits .exit)) (now (ready .exit))
         ≡ passed (ties (now (desks .entry)) (now (befores .entry)) (now (afters .entry))
         (now (handovers .entry))) c k (waiting (now (waits .entry)) (now (ready .entry))) ⌝ }
+    ensures { λ r. ⌜ Opens (k + 1) (now (afters .entry)) opened (now (table .entry)) (now (waits .entry))
+        r (now (table .exit)) (now (waits .exit)) ⌝ }
 {
     let b = befores[k] as usize;
     let a = afters[k] as usize;
-    waits[a] = numbers::less(waits[a], 1);
+    let w = waits[a];
+    waits[a] = numbers::one_less(w);
     ready[a] = numbers::greater(
         ready[a],
         c + delay(desks[b], desks[a], numbers::wide(handovers[k])),
     );
+    if w == 1 {
+        table[opened] = a as u16;
+        return opened + 1;
+    }
+    opened
 }
 
 // Piece p was finished at moment c: each of its links is looked at, along their chain.
@@ -60,35 +59,54 @@ fn pass_on(
     m: usize,
     p: usize,
     c: u32,
+    opened: usize,
     desks: &[u8; 256],
     befores: &[u16; 1024],
     afters: &[u16; 1024],
     handovers: &[u16; 1024],
     last: &[u16; 256],
     prior: &[u16; 1024],
-    waits: &mut [u32; 256],
+    waits: &mut [u16; 256],
     ready: &mut [u32; 256],
-)
+    table: &mut [u16; 256],
+) -> usize
     requires { ⌜ Named m (now befores) (now afters) ⌝ }
     requires { ⌜ Chained (now befores) m (now last) (now prior) ⌝ }
     requires { ⌜ (p < 256) × (c < 4000000000) ⌝ }
+    requires { ⌜ Room m (now afters) opened (now table) (now waits) ⌝ }
     ensures { λ _. ⌜ waiting (now (waits .exit)) (now (ready .exit))
         ≡ passFrom (ties (now (desks .entry)) (now (befores .entry)) (now (afters .entry))
         (now (handovers .entry))) p c m (waiting (now (waits .entry)) (now (ready .entry))) ⌝ }
+    ensures { λ r. ⌜ Opens m (now (afters .entry)) opened (now (table .entry)) (now (waits .entry))
+        r (now (table .exit)) (now (waits .exit)) ⌝ }
 {
+    let mut held = opened;
     let mut next = numbers::place(last[p]);
     while 0 < next {
         let k = next - 1;
-        pass(k, c, desks, befores, afters, handovers, waits, ready);
+        held = pass(
+            k,
+            c,
+            held,
+            desks,
+            befores,
+            afters,
+            handovers,
+            waits,
+            ready,
+            table,
+        );
         next = numbers::place(prior[k]);
     }
+    held
 }
 
-// Piece i was worked on until moment c: if that finished it, its links are looked at. There is no piece 256.
+// Piece i was worked on until moment c: if that finished it, its links are looked at.
 fn hand_on(
     m: usize,
     i: usize,
     c: u32,
+    opened: usize,
     desks: &[u8; 256],
     befores: &[u16; 1024],
     afters: &[u16; 1024],
@@ -96,26 +114,28 @@ fn hand_on(
     last: &[u16; 256],
     prior: &[u16; 1024],
     left: &[u32; 256],
-    waits: &mut [u32; 256],
+    waits: &mut [u16; 256],
     ready: &mut [u32; 256],
-)
+    table: &mut [u16; 256],
+) -> usize
     requires { ⌜ Named m (now befores) (now afters) ⌝ }
     requires { ⌜ Chained (now befores) m (now last) (now prior) ⌝ }
-    requires { ⌜ c < 4000000000 ⌝ }
+    requires { ⌜ (i < 256) × (c < 4000000000) ⌝ }
+    requires { ⌜ Room m (now afters) opened (now table) (now waits) ⌝ }
     ensures { λ _. ⌜ waiting (now (waits .exit)) (now (ready .exit))
         ≡ handOn (ties (now (desks .entry)) (now (befores .entry)) (now (afters .entry))
         (now (handovers .entry))) m c (now (left .entry)) i (waiting (now (waits .entry)) (now (ready .entry))) ⌝ }
+    ensures { λ r. ⌜ Opens m (now (afters .entry)) opened (now (table .entry)) (now (waits .entry))
+        r (now (table .exit)) (now (waits .exit)) ⌝ }
 {
-    if 255 < i {
-        return;
-    }
     if 0 < left[i] {
-        return;
+        return opened;
     }
     pass_on(
         m,
         i,
         c,
+        opened,
         desks,
         befores,
         afters,
@@ -124,38 +144,49 @@ fn hand_on(
         prior,
         waits,
         ready,
-    );
+        table,
+    )
 }
 
-// The same for the pieces that the desks chose.
+// The same for the pieces that the desks that work chose.
 pub fn hand_all(
     m: usize,
     c: u32,
+    opened: usize,
+    count: usize,
     desks: &[u8; 256],
     befores: &[u16; 1024],
     afters: &[u16; 1024],
     handovers: &[u16; 1024],
     last: &[u16; 256],
     prior: &[u16; 1024],
-    chosen: &[usize; 32],
+    chosen: &[u16; 32],
+    busy: &[u16; 32],
     left: &[u32; 256],
-    waits: &mut [u32; 256],
+    waits: &mut [u16; 256],
     ready: &mut [u32; 256],
-)
+    table: &mut [u16; 256],
+) -> usize
     requires { ⌜ Named m (now befores) (now afters) ⌝ }
     requires { ⌜ Chained (now befores) m (now last) (now prior) ⌝ }
-    requires { ⌜ c < 4000000000 ⌝ }
+    requires { ⌜ (c < 4000000000) × Busy count (now chosen) (now busy) ⌝ }
+    requires { ⌜ Room m (now afters) opened (now table) (now waits) ⌝ }
     ensures { λ _. ⌜ waiting (now (waits .exit)) (now (ready .exit))
         ≡ handTo (ties (now (desks .entry)) (now (befores .entry)) (now (afters .entry))
-        (now (handovers .entry))) m c (now (left .entry)) (now (chosen .entry)) 32
+        (now (handovers .entry))) m c (now (left .entry)) (now (chosen .entry)) (now (busy .entry)) count
         (waiting (now (waits .entry)) (now (ready .entry))) ⌝ }
+    ensures { λ r. ⌜ Opens m (now (afters .entry)) opened (now (table .entry)) (now (waits .entry))
+        r (now (table .exit)) (now (waits .exit)) ⌝ }
 {
-    let mut d = 0;
-    while d < 32 {
-        hand_on(
+    let mut held = opened;
+    let mut q = 0;
+    while q < count {
+        let d = busy[q] as usize;
+        held = hand_on(
             m,
-            chosen[d],
+            chosen[d] as usize,
             c,
+            held,
             desks,
             befores,
             afters,
@@ -165,7 +196,9 @@ pub fn hand_all(
             left,
             waits,
             ready,
+            table,
         );
-        d += 1;
+        q += 1;
     }
+    held
 }

@@ -2,6 +2,7 @@
 // where the desk has none.
 ghost use mathlib.Core.Path.{_≡_};
 ghost use Prim.Native.Nat.{_<_};
+ghost use Rattle.steps.specs.Choice.{Busy};
 ghost use Rattle.steps.specs.Log.{log, stays, noteOn, noteTo};
 
 // The run at place k of the log goes on with piece i at moment t.
@@ -29,14 +30,11 @@ fn note(
     from: &mut [u32; 512],
     until: &mut [u32; 512],
 ) -> usize
-    requires { ⌜ d < 32 ⌝ }
+    requires { ⌜ (d < 32) × (i < 256) ⌝ }
     ensures { λ r. ⌜ log r (now (last .exit)) (now (piece .exit)) (now (from .exit)) (now (until .exit))
         ≡ noteOn t next d i
         (log runs (now (last .entry)) (now (piece .entry)) (now (from .entry)) (now (until .entry))) ⌝ }
 {
-    if 255 < i {
-        return runs;
-    }
     let k = last[d];
     if goes_on(k, i, t, piece, until) {
         until[k] = next;
@@ -52,26 +50,40 @@ fn note(
     runs + 1
 }
 
-// The same for every desk.
+// The same for every desk that works.
 pub fn note_all(
     t: u32,
     next: u32,
     runs: usize,
-    chosen: &[usize; 32],
+    count: usize,
+    chosen: &[u16; 32],
+    busy: &[u16; 32],
     last: &mut [usize; 32],
     piece: &mut [u16; 512],
     from: &mut [u32; 512],
     until: &mut [u32; 512],
 ) -> usize
+    requires { ⌜ Busy count (now chosen) (now busy) ⌝ }
     ensures { λ r. ⌜ log r (now (last .exit)) (now (piece .exit)) (now (from .exit)) (now (until .exit))
-        ≡ noteTo t next (now (chosen .entry)) 32
+        ≡ noteTo t next (now (chosen .entry)) (now (busy .entry)) count
         (log runs (now (last .entry)) (now (piece .entry)) (now (from .entry)) (now (until .entry))) ⌝ }
 {
-    let mut count = runs;
-    let mut d = 0;
-    while d < 32 {
-        count = note(d, chosen[d], t, next, count, last, piece, from, until);
-        d += 1;
+    let mut logged = runs;
+    let mut q = 0;
+    while q < count {
+        let d = busy[q] as usize;
+        logged = note(
+            d,
+            chosen[d] as usize,
+            t,
+            next,
+            logged,
+            last,
+            piece,
+            from,
+            until,
+        );
+        q += 1;
     }
-    count
+    logged
 }

@@ -1,17 +1,23 @@
 // The slots up to the next decision moment, worked on the chosen pieces at once.
 ghost use mathlib.Core.Path.{_≡_};
+ghost use Prim.Native.Nat.{_<_};
 ghost use lib.Dec.{eqb};
+ghost use lib.ListN.{set};
 ghost use Rattle.rules.specs.Words.{when};
-ghost use Rattle.steps.specs.Work.{work, workOn, workTo};
+ghost use Rattle.steps.specs.Choice.{Busy};
+ghost use Rattle.steps.specs.Work.{work, forth, workTo};
 
-// The start of a piece with so much left of its whole duration: this moment if nothing was worked off it yet.
-fn start_of(left: u32, whole: u32, t: u32, start: u32) -> u32
-    ensures { λ r. ⌜ r ≡ when (eqb left whole) t start ⌝ }
+// Piece i, with so much left of its whole duration, starts at this moment if nothing was worked off it yet.
+fn starts(i: usize, left: u32, whole: u32, t: u32, start: &mut [u32; 256])
+    requires { ⌜ i < 256 ⌝ }
+    ensures { λ _. ⌜ now (start .exit) ≡ when (eqb left whole) (set (now (start .entry)) i t) (now (start .entry)) ⌝ }
 {
-    if left == whole { t } else { start }
+    if left == whole {
+        start[i] = t;
+    }
 }
 
-// Piece i is worked on from moment t until moment `next`. There is no piece 256.
+// Piece i is worked on from moment t until moment `next`.
 fn work_on(
     i: usize,
     t: u32,
@@ -21,35 +27,37 @@ fn work_on(
     start: &mut [u32; 256],
     finish: &mut [u32; 256],
 )
+    requires { ⌜ i < 256 ⌝ }
     ensures { λ _. ⌜ work (now (left .exit)) (now (start .exit)) (now (finish .exit))
-        ≡ workOn (now (durations .entry)) t next i
+        ≡ forth (now (durations .entry)) t next i
         (work (now (left .entry)) (now (start .entry)) (now (finish .entry))) ⌝ }
 {
-    if 255 < i {
-        return;
-    }
-    start[i] = start_of(left[i], numbers::wide(durations[i]), t, start[i]);
+    starts(i, left[i], numbers::wide(durations[i]), t, start);
     left[i] = numbers::less(left[i], numbers::less(next, t));
     finish[i] = next;
 }
 
-// Every desk works on the piece that it chose.
+// Every desk that works does so on the piece that it chose.
 pub fn work_all(
     t: u32,
     next: u32,
+    count: usize,
     durations: &[u16; 256],
-    chosen: &[usize; 32],
+    chosen: &[u16; 32],
+    busy: &[u16; 32],
     left: &mut [u32; 256],
     start: &mut [u32; 256],
     finish: &mut [u32; 256],
 )
+    requires { ⌜ Busy count (now chosen) (now busy) ⌝ }
     ensures { λ _. ⌜ work (now (left .exit)) (now (start .exit)) (now (finish .exit))
-        ≡ workTo (now (durations .entry)) t next (now (chosen .entry)) 32
+        ≡ workTo (now (durations .entry)) t next (now (chosen .entry)) (now (busy .entry)) count
         (work (now (left .entry)) (now (start .entry)) (now (finish .entry))) ⌝ }
 {
-    let mut d = 0;
-    while d < 32 {
-        work_on(chosen[d], t, next, durations, left, start, finish);
-        d += 1;
+    let mut q = 0;
+    while q < count {
+        let d = busy[q] as usize;
+        work_on(chosen[d] as usize, t, next, durations, left, start, finish);
+        q += 1;
     }
 }

@@ -23,6 +23,13 @@ pub fn less(a: u32, b: u32) -> u32
     if a < b { 0 } else { a - b }
 }
 
+// One less, and nothing where there is nothing.
+pub fn one_less(x: u16) -> u16
+    ensures { λ r. ⌜ r ≡ x - 1 ⌝ }
+{
+    if x == 0 { 0 } else { x - 1 }
+}
+
 // A number of two bytes as one of four.
 pub fn wide(x: u16) -> u32
     ensures { λ r. ⌜ (r ≡ x) × (r < 65536) ⌝ }

@@ -13,11 +13,12 @@ use Rattle.rules.specs.Tables.{Sound, linkIn}
 use Rattle.rules.specs.declared.Link.{Link}
 use Rattle.laws.proofs.Slots.{work-start}
 use Rattle.laws.proofs.Sound.{fits, link-fit}
+use Rattle.links.specs.Links.{counted, linksTo}
 use Rattle.slots.specs.Growth.{runsUntil}
 use Rattle.slots.specs.Standing.{done, waitsOf, readyOf, linksAt}
 use Rattle.slots.specs.Stretch.{at}
 use Rattle.slots.proofs.Standing.{left-undone, fresh-waits, fresh-ready}
-use Rattle.steps.specs.Handover.{intoOf, Waiting}
+use Rattle.steps.specs.Handover.{Waiting}
 use Rattle.steps.specs.Log.{Log}
 use Rattle.steps.specs.Work.{Work}
 use Rattle.steps.proofs.LinkStep.{WaitHeld}
@@ -34,12 +35,12 @@ at-more i (x ∷ ls) l =
     let ih : linksAt i (ls ++ (l ∷ [])) ≡ linksAt i ls + when (eqb (l .after) i) 1 0 = at-more i ls l in omega arith
 
 into-links : (befores afters handovers : List ℕ) (i m : ℕ)
-    → intoOf afters i m ≡ linksAt i (map (linkIn befores afters handovers) (below m))
-unfolding intoOf linksAt below linkIn
+    → linksTo m afters i ≡ linksAt i (map (linkIn befores afters handovers) (below m))
+unfolding linksTo counted linksAt below linkIn
 into-links befores afters handovers i zero = refl
 into-links befores afters handovers i (suc m) =
     let f : ℕ → Link = linkIn befores afters handovers in
-    let ih : intoOf afters i m ≡ linksAt i (map f (below m)) = into-links befores afters handovers i m in
+    let ih : linksTo m afters i ≡ linksAt i (map f (below m)) = into-links befores afters handovers i m in
     let e : linksAt i (map f (below (suc m))) ≡ linksAt i (map f (below m)) + when (eqb (getD afters m 0) i) 1 0 =
     ap (linksAt i) (ap (map f) (below-more m) ∙ map-append f (below m) (m ∷ [])) ∙ at-more i (map f (below m)) (f m) in
     omega arith
@@ -72,7 +73,7 @@ module _ (J : Job) (sound : Sound J) (n : ℕ) (count : pieceCount J ≡ n) wher
   pub begun-waits : (m : ℕ) (releases befores afters handovers : List ℕ)
       → ((i : ℕ) → i < n → piece J i .release ≡ getD releases i 0)
       → J .links ≡ map (linkIn befores afters handovers) (below m) → (s : Waiting)
-      → length (s .waits) ≡ 256 → length (s .ready) ≡ 256 → ((i : ℕ) → i < n → getD (s .waits) i 0 ≡ intoOf afters i m)
+      → length (s .waits) ≡ 256 → length (s .ready) ≡ 256 → ((i : ℕ) → i < n → getD (s .waits) i 0 ≡ linksTo m afters i)
       → ((i : ℕ) → i < n → getD (s .ready) i 0 ≡ getD releases i 0) → WaitHeld J n (at J 0) s
   unfolding waitsOf readyOf
   begun-waits m releases befores afters handovers r k s a b w y = record {

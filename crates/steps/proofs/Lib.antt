@@ -1,9 +1,10 @@
 -- That one step over the tables is the plan from one decision moment to the next, by topic.
 pub mod Tables
+pub mod Moved
+pub mod Precedence
 pub mod Decision
 pub mod Earliest
 pub mod NextMoment
-pub mod Moved
 pub mod WorkStep
 pub mod Passing
 pub mod LinkStep

@@ -1,11 +1,12 @@
 -- The links over the tables: what is passed on along the links of the pieces that were finished leaves the tables saying
 -- what every piece waits for at the next moment.
 use Prim.Native.Nat.{ℕ, zero, suc, _+_, _-_, _≤_, _<_, max}
+use mathlib.Core.Bool.{Bool, false}
 use mathlib.Core.List.{List, map, List·Memᴰ as Mem}
 use mathlib.Core.Option.{some}
-use mathlib.Core.Path.{_≡_, sym, ap, _∙_}
+use mathlib.Core.Path.{_≡_, refl, sym, ap, _∙_}
 use native.Mathlib.Omega.{arith}
-use borrow.Author.Tests.{lt-ltb, le-ltb, eqb-true, eqb-false}
+use borrow.Author.Tests.{eqb-true, eqb-false}
 use lib.Dec.{eqb}
 use lib.ListN.{length, getD}
 use Rattle.rules.specs.Words.{when, below}
@@ -13,15 +14,14 @@ use Rattle.rules.specs.Job.{Job, pieceCount, piece, desk}
 use Rattle.rules.specs.Tables.{Sound, linkIn}
 use Rattle.rules.specs.Urgency.{Progress, worked}
 use Rattle.rules.specs.declared.Link.{Link}
-use Rattle.laws.proofs.Slots.{by-choice, worked-chosen, none-or-some, some-inj}
+use Rattle.laws.proofs.Slots.{worked-chosen, some-inj}
 use Rattle.laws.proofs.Sound.{link-fit}
 use Rattle.laws.proofs.Words.{by-test}
 use Rattle.slots.specs.Standing.{done, waitsFor, readyBy, waitsOf, readyOf, linksTo, askedBy}
 use Rattle.slots.specs.Stretch.{at, Stretch}
 use Rattle.slots.proofs.Standing.{left-undone, alike-waits, alike-ready, finished-waits, finished-ready}
-use Rattle.steps.specs.Choice.{codeOf}
 use Rattle.steps.specs.Handover.{Ties, Waiting, passFrom, handOn, handTo}
-use Rattle.steps.proofs.Moved.{momentOf, moment-early, moment-late, standing, unmoved, moved-from, moved-to, moved-on}
+use Rattle.steps.proofs.Moved.{also, momentOf, moment-early, standing, all-moved, unmoved, moved-from, moved-to, moved-on, movedBy, Desks}
 use Rattle.steps.proofs.Passing.{pass-sized, pass-waits, pass-ready}
 
 -- The tables of n pieces say what they wait for.
@@ -78,76 +78,70 @@ module _ (J : Job) (sound : Sound J) (n m : ℕ) (l : Ties) (count : pieceCount 
 
   module _ (t u k : ℕ) (e : t + k ≡ u) (p : 0 < k) (st : Stretch J t k) (left : List ℕ)
       (left-is : (i : ℕ) → i < n → getD left i 0 ≡ at J u i .left) where
-    abbrev then-at : ℕ → ℕ → Progress
-    then-at d = standing J (momentOf t u d)
+    abbrev then-at : (ℕ → Bool) → ℕ → Progress
+    then-at M = standing J (momentOf t u M)
 
     -- Desk d moved on, which works on piece i.
-    module _ (d i : ℕ) (q : worked J d t ≡ some i) (s : Waiting) (h : WaitHeld J n (then-at d) s) where
+    module _ (M : ℕ → Bool) (d : ℕ) (new : M d ≡ false) (i : ℕ) (q : worked J d t ≡ some i) (s : Waiting)
+        (h : WaitHeld J n (then-at M) s) where
       inside : i < n
       inside = rw count at (worked-chosen J d t i q .waits .inside)
 
-      unfinished : 0 < then-at d i .left
-      unfinished = rw (moved-from J sound t u k e st d i q) (worked-chosen J d t i q .waits .unfinished)
+      unfinished : 0 < then-at M i .left
+      unfinished = rw (moved-from J sound t u k e st M d new i q) (worked-chosen J d t i q .waits .unfinished)
 
-      others : (j : ℕ) → (j ≡ i → ⊥) → then-at d j ≡ then-at (suc d) j
-      others j ne = sym (unmoved J sound t u k e st d j (λ z. ne (some-inj (sym z ∙ q))))
+      others : (j : ℕ) → (j ≡ i → ⊥) → then-at M j ≡ then-at (also M d) j
+      others j ne = sym (unmoved J sound t u k e st M d new j (λ z. ne (some-inj (sym z ∙ q))))
 
       -- It is finished, or it is not yet.
-      finished-here : getD left i 0 ≡ 0 → WaitHeld J n (then-at (suc d)) (passFrom l i u m s)
+      finished-here : getD left i 0 ≡ 0 → WaitHeld J n (then-at (also M d)) (passFrom l i u m s)
       finished-here f =
-          let to : then-at (suc d) i ≡ at J u i = moved-to J sound t u k e st d i q in
-          wait-passed (then-at d) (then-at (suc d)) i u unfinished
+          let to : then-at (also M d) i ≡ at J u i = moved-to J sound t u k e st M d new i q in
+          wait-passed (then-at M) (then-at (also M d)) i u unfinished
           (ap (λ r. r .left) to ∙ sym (left-is i inside) ∙ f)
-          (ap (λ r. r .finish) (to ∙ moved-on J sound t u k e st d i q p) ∙ e)
+          (ap (λ r. r .finish) (to ∙ moved-on J sound t u k e st M d new i q p) ∙ e)
           others s h
 
-      not-finished-yet : 0 < getD left i 0 → WaitHeld J n (then-at (suc d)) s
+      not-finished-yet : 0 < getD left i 0 → WaitHeld J n (then-at (also M d)) s
       not-finished-yet f =
-          let to : then-at (suc d) i ≡ at J u i = moved-to J sound t u k e st d i q in
-          let g : 0 < then-at (suc d) i .left = rw (to, ← left-is i inside) f in
-          wait-alike (then-at d) (then-at (suc d)) s
+          let to : then-at (also M d) i ≡ at J u i = moved-to J sound t u k e st M d new i q in
+          let g : 0 < then-at (also M d) i .left = rw (to, ← left-is i inside) f in
+          wait-alike (then-at M) (then-at (also M d)) s
           (λ j b. by-test (eqb j i)
-          (λ z. rw (eqb-true j i z) (left-undone (then-at d) i unfinished ∙ sym (left-undone (then-at (suc d)) i g)))
+          (λ z. rw (eqb-true j i z) (left-undone (then-at M) i unfinished ∙ sym (left-undone (then-at (also M d)) i g)))
           (λ z. rw (others j (eqb-false j i z))))
           (λ j b r. by-test (eqb j i)
           (λ z. absurd (omega (arith, unfinished, rw (eqb-true j i z) at r)))
           (λ z. ap (λ y. y .finish) (others j (eqb-false j i z))))
           h
 
-    -- Desk d moved on, by the code of its choice.
-    hand-desk : (d x : ℕ) → x ≡ codeOf (worked J d t) → (s : Waiting) → WaitHeld J n (then-at d) s
-        → WaitHeld J n (then-at (suc d)) (handOn l m u left x s)
-    unfolding handOn codeOf
-    hand-desk d x c s h = by-choice (worked J d t)
-        (λ q. let z : x ≡ 256 = c ∙ ap codeOf q in
-        let same : (j : ℕ) → then-at d j ≡ then-at (suc d) j =
-        λ j. sym (unmoved J sound t u k e st d j (λ y. none-or-some (sym q ∙ y))) in
-        rw (le-ltb x 256 (omega arith), when)
-        (wait-alike (then-at d) (then-at (suc d)) s (λ j b. rw (same j)) (λ j b r. ap (λ y. y .finish) (same j)) h))
-        (λ i q. let z : x ≡ i = c ∙ ap codeOf q in
-        let b : i < n = inside d i q s h in
-        by-test (eqb (getD left i 0) 0)
-        (λ y. rw (z, lt-ltb i 256 (omega arith), y, when) (finished-here d i q s h (eqb-true _ 0 y)))
-        (λ y. rw (z, lt-ltb i 256 (omega arith), y, when)
-        (not-finished-yet d i q s h (omega (arith, eqb-false (getD left i 0) 0 y)))))
+      hand-desk : WaitHeld J n (then-at (also M d)) (handOn l m u left i s)
+      unfolding handOn
+      hand-desk = by-test (eqb (getD left i 0) 0)
+          (λ y. rw (y, when) (finished-here (eqb-true _ 0 y)))
+          (λ y. rw (y, when) (not-finished-yet (omega (arith, eqb-false (getD left i 0) 0 y))))
 
-    hand-desks : (chosen : List ℕ) → ((d : ℕ) → d < 32 → getD chosen d 0 ≡ codeOf (worked J d t)) → (d : ℕ) → d ≤ 32
-        → (s : Waiting) → WaitHeld J n (then-at 0) s → WaitHeld J n (then-at d) (handTo l m u left chosen d s)
-    unfolding handTo
-    hand-desks chosen c zero b s h = h
-    hand-desks chosen c (suc d) b s h =
-        hand-desk d (getD chosen d 0) (c d b) (handTo l m u left chosen d s) (hand-desks chosen c d (omega arith) s h)
+    -- The first c of the desks that work moved on.
+    module _ (all : ℕ) (chosen busy : List ℕ) (D : Desks J t all chosen busy) where
+      hand-desks : (c : ℕ) → c ≤ all → (s : Waiting) → WaitHeld J n (then-at (movedBy busy 0)) s
+          → WaitHeld J n (then-at (movedBy busy c)) (handTo l m u left chosen busy c s)
+      unfolding handTo movedBy
+      hand-desks zero b s h = h
+      hand-desks (suc c) b s h =
+          hand-desk (movedBy busy c) (getD busy c 0) (D .new c b) (getD chosen (getD busy c 0) 0) (D .works c b)
+          (handTo l m u left chosen busy c s) (hand-desks c (omega arith) s h)
 
-    -- All of them: the tables say what every piece waits for at moment u.
-    pub hand-step : (chosen : List ℕ) → ((d : ℕ) → d < 32 → getD chosen d 0 ≡ codeOf (worked J d t))
-        → ((i : ℕ) → i < n → desk J i < 32) → (s : Waiting) → WaitHeld J n (at J t) s
-        → WaitHeld J n (at J u) (handTo l m u left chosen 32 s)
-    hand-step chosen c few-desks s h =
-        let early : (i : ℕ) → at J t i ≡ then-at 0 i = λ i. ap (λ x. at J x i)
-        (sym (moment-early t u 0 (desk J i) (omega arith))) in
-        let late : (i : ℕ) → i < n → then-at 32 i ≡ at J u i =
-        λ i b. ap (λ x. at J x i) (moment-late t u 32 (desk J i) (few-desks i b)) in
-        wait-alike (then-at 32) (at J u) (handTo l m u left chosen 32 s)
-        (λ i b. rw (late i b)) (λ i b r. ap (λ y. y .finish) (late i b))
-        (hand-desks chosen c 32 (omega arith) s
-        (wait-alike (at J t) (then-at 0) s (λ i b. rw (early i)) (λ i b r. ap (λ y. y .finish) (early i)) h))
+      -- All of them: the tables say what every piece waits for at moment u.
+      pub hand-step : ((i : ℕ) → i < n → desk J i < 32) → (s : Waiting) → WaitHeld J n (at J t) s
+          → WaitHeld J n (at J u) (handTo l m u left chosen busy all s)
+      unfolding movedBy
+      hand-step few-desks s h =
+          let early : (i : ℕ) → at J t i ≡ then-at (movedBy busy 0) i = λ i. ap (λ x. at J x i)
+          (sym (moment-early t u (movedBy busy 0) (desk J i) refl)) in
+          let late : (i : ℕ) → i < n → then-at (movedBy busy all) i ≡ at J u i =
+          λ i b. all-moved J sound t u k e st (movedBy busy all) i (D .rest (desk J i) (few-desks i b)) in
+          wait-alike (then-at (movedBy busy all)) (at J u) (handTo l m u left chosen busy all s)
+          (λ i b. rw (late i b)) (λ i b r. ap (λ y. y .finish) (late i b))
+          (hand-desks all (omega arith) s
+          (wait-alike (at J t) (then-at (movedBy busy 0)) s (λ i b. rw (early i)) (λ i b r. ap (λ y. y .finish) (early i))
+          h))

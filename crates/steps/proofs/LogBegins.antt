@@ -1,6 +1,6 @@
 -- A desk works on, and a run begins: the log has it behind the others, and there is room for it.
 use Prim.Native.Nat.{ℕ, suc, _+_, _-_, _≤_, _<_}
-use mathlib.Core.Bool.{true, false}
+use mathlib.Core.Bool.{Bool, true, false}
 use mathlib.Core.List.{List, [], _∷_, _++_}
 use mathlib.Core.Logic.{inl, inr}
 use mathlib.Core.Option.{some}
@@ -25,7 +25,7 @@ use Rattle.slots.proofs.Score.{run-rises}
 use Rattle.steps.specs.Log.{Log, begun, runAt, loggedRuns}
 use Rattle.steps.proofs.LogHeld.{Placed, logged, LastRun, LogHeld, worked-runs}
 use Rattle.steps.proofs.LogLists.{ownRun, own-more, other-more, last-logged, logged-same}
-use Rattle.steps.proofs.Moved.{momentOf, moment-early, moment-late, moment-other}
+use Rattle.steps.proofs.Moved.{also, momentOf, moment-early, moment-own, moment-other}
 use Rattle.steps.proofs.Scores.{scores, scores-less, scores-rise}
 
 -- The run at place c = the count of runs so far, which is the last one now.
@@ -78,7 +78,8 @@ module _ (desks : List ℕ) (l : Log) (t u d i : ℕ) (room : l .runs < 512) (pi
 
 module _ (J : Job) (sound : Sound J) (n : ℕ) (desks : List ℕ) (t u k : ℕ) (e : t + k ≡ u) (p : 0 < k) (s : Stretch J t k)
     (count : pieceCount J ≡ n) (small : n ≤ 256) (desk-is : (i : ℕ) → i < n → desk J i ≡ getD desks i 0) where
-  module _ (d i : ℕ) (b : d < 32) (q : worked J d t ≡ some i) (l : Log) (h : LogHeld J n desks (momentOf t u d) l)
+  module _ (M : ℕ → Bool) (d : ℕ) (new : M d ≡ false) (i : ℕ) (b : d < 32) (q : worked J d t ≡ some i) (l : Log)
+      (h : LogHeld J n desks (momentOf t u M) l)
       (anew : (w : Placed desks l d) → goesOnAt (runAt (l .piece) (l .from) (l .until) (getD (l .last) d 0)) i t
       ≡ false) where
     abbrev now : Log
@@ -92,17 +93,17 @@ module _ (J : Job) (sound : Sound J) (n : ℕ) (desks : List ℕ) (t u k : ℕ) 
 
     pub room : l .runs < 512
     room =
-        let early : momentOf t u d (desk J i) ≡ t =
-        moment-early t u d (desk J i) (omega (arith, worked-chosen J d t i q .waits .on-desk)) in
+        let early : momentOf t u M (desk J i) ≡ t =
+        rw (worked-chosen J d t i q .waits .on-desk) (moment-early t u M d new) in
         omega (
           arith,
           h .few,
-          scores-less J n (momentOf t u d) i inside
+          scores-less J n (momentOf t u M) i inside
               (rw early (worked-chosen J d t i q .waits .unfinished)),
         )
 
     was : logged desks l d ≡ runsUntil J d t
-    was = h .runs-are d b ∙ ap (runsUntil J d) (moment-early t u d d (omega arith))
+    was = h .runs-are d b ∙ ap (runsUntil J d) (moment-early t u M d new)
 
     abbrev run : Run
     run = runAt (l .piece) (l .from) (l .until) (getD (l .last) d 0)
@@ -143,10 +144,10 @@ module _ (J : Job) (sound : Sound J) (n : ℕ) (desks : List ℕ) (t u k : ℕ) 
             let c : run .until ≡ t = sym (last-end before run) ∙ ap lastEnd (sym (last-was w)) ∙ v in
             true-or-false (sym (going-on run i t a c) ∙ anew w)
 
-    one-more-fits : l .runs + 1 ≤ scores J n (momentOf t u (suc d))
+    one-more-fits : l .runs + 1 ≤ scores J n (momentOf t u (also M d))
     one-more-fits =
         let r = run-rises J sound d t i q not-last in
-        omega (arith, h .few, scores-rise J n t u k e p count d (r .0) (rw count at (r .1)) (r .2) (r .3))
+        omega (arith, h .few, scores-rise J n t u k e p count M d new (r .0) (rw count at (r .1)) (r .2) (r .3))
 
     other-runs : (f : ℕ) → (f ≡ d → ⊥) → logged desks now f ≡ logged desks l f
     other-runs f ne = other-logged desks l t u d i room (h .piece-sized) (h .from-sized) (h .until-sized) own-desk f ne
@@ -184,15 +185,15 @@ module _ (J : Job) (sound : Sound J) (n : ℕ) (desks : List ℕ) (t u k : ℕ) 
           latest = λ j a c. absurd (omega (arith, rw same at a));
         })
 
-    pub begins-held : LogHeld J n desks (momentOf t u (suc d)) now
+    pub begins-held : LogHeld J n desks (momentOf t u (also M d)) now
     begins-held = record {
       last-sized = length-set (l .last) d (l .runs) ∙ h .last-sized;
       piece-sized = length-set (l .piece) (l .runs) i ∙ h .piece-sized;
       from-sized = length-set (l .from) (l .runs) t ∙ h .from-sized;
       until-sized = length-set (l .until) (l .runs) u ∙ h .until-sized;
       runs-are = λ f c. by-test (eqb f d)
-          (λ z. let y : f ≡ d = eqb-true f d z in rw (y, moment-late t u (suc d) d (omega arith)) own-runs)
-          (λ z. let ne = eqb-false f d z in rw (moment-other t u d f ne) (other-runs f ne ∙ h .runs-are f c));
+          (λ z. let y : f ≡ d = eqb-true f d z in rw (y, moment-own t u M d) own-runs)
+          (λ z. let ne = eqb-false f d z in rw (moment-other t u M d f ne) (other-runs f ne ∙ h .runs-are f c));
       lasts = λ f c. by-test (eqb f d)
           (λ z. rw (eqb-true f d z) own-last)
           (λ z. others-last f (h .lasts f c) (eqb-false f d z));

@@ -1,6 +1,6 @@
 -- A desk works on, and its last run goes on: the log has it longer, and nothing else changes.
 use Prim.Native.Nat.{ℕ, suc, _+_, _-_, _≤_, _<_}
-use mathlib.Core.Bool.{true}
+use mathlib.Core.Bool.{Bool, true, false}
 use mathlib.Core.List.{List, [], _∷_, _++_}
 use mathlib.Core.Logic.{inl, inr}
 use mathlib.Core.Option.{some}
@@ -21,7 +21,7 @@ use Rattle.slots.proofs.Growth.{grown-on, goes-on}
 use Rattle.steps.specs.Log.{Log, stays, lengthened, runAt, loggedRuns}
 use Rattle.steps.proofs.LogHeld.{Placed, logged, LastRun, LogHeld, worked-runs}
 use Rattle.steps.proofs.LogLists.{ownRun, last-logged, logged-same}
-use Rattle.steps.proofs.Moved.{momentOf, moment-early, moment-late, moment-other}
+use Rattle.steps.proofs.Moved.{also, momentOf, moment-early, moment-own, moment-other}
 use Rattle.steps.proofs.Scores.{scores-most, scores-grow}
 
 -- The test that the code makes of the desk's last run is whether that run goes on.
@@ -53,7 +53,8 @@ module _ (desks : List ℕ) (l : Log) (t u c : ℕ) where
 
 module _ (J : Job) (sound : Sound J) (n : ℕ) (desks : List ℕ) (t u k : ℕ) (e : t + k ≡ u) (p : 0 < k) (s : Stretch J t k)
     (count : pieceCount J ≡ n) (small : n ≤ 256) (desk-is : (i : ℕ) → i < n → desk J i ≡ getD desks i 0) where
-  module _ (d i : ℕ) (b : d < 32) (q : worked J d t ≡ some i) (l : Log) (h : LogHeld J n desks (momentOf t u d) l)
+  module _ (M : ℕ → Bool) (d : ℕ) (new : M d ≡ false) (i : ℕ) (b : d < 32) (q : worked J d t ≡ some i) (l : Log)
+      (h : LogHeld J n desks (momentOf t u M) l)
       (w : Placed desks l d) (on : goesOnAt (runAt (l .piece) (l .from) (l .until) (getD (l .last) d 0)) i t
       ≡ true) where
     abbrev place : ℕ
@@ -66,7 +67,7 @@ module _ (J : Job) (sound : Sound J) (n : ℕ) (desks : List ℕ) (t u k : ℕ) 
     run = runAt (l .piece) (l .from) (l .until) place
 
     room : place < length (l .until)
-    room = omega (arith, w .below, h .few, scores-most J n (momentOf t u d), h .until-sized)
+    room = omega (arith, w .below, h .few, scores-most J n (momentOf t u M), h .until-sized)
 
     ended : getD (l .until) place 0 ≡ t
     ended = goes-on run i t on .1
@@ -87,7 +88,7 @@ module _ (J : Job) (sound : Sound J) (n : ℕ) (desks : List ℕ) (t u k : ℕ) 
     unfolding before
     was =
         sym (last-logged desks (l .piece) (l .from) (l .until) d (l .runs) place (w .below) (w .own) (w .latest))
-        ∙ h .runs-are d b ∙ ap (runsUntil J d) (moment-early t u d d (omega arith))
+        ∙ h .runs-are d b ∙ ap (runsUntil J d) (moment-early t u M d new)
 
     own-runs : logged desks now d ≡ runsUntil J d u
     unfolding before
@@ -105,7 +106,7 @@ module _ (J : Job) (sound : Sound J) (n : ℕ) (desks : List ℕ) (t u k : ℕ) 
     lasts-stay f (inl y) ne = inl (y .0, other-runs f ne ∙ y .1)
     lasts-stay f (inr y) ne = inr (record { below = y .below; own = y .own; latest = y .latest })
 
-    pub goes-on-held : LogHeld J n desks (momentOf t u (suc d)) now
+    pub goes-on-held : LogHeld J n desks (momentOf t u (also M d)) now
     unfolding LastRun
     goes-on-held = record {
       last-sized = h .last-sized;
@@ -113,8 +114,8 @@ module _ (J : Job) (sound : Sound J) (n : ℕ) (desks : List ℕ) (t u k : ℕ) 
       from-sized = h .from-sized;
       until-sized = length-set (l .until) place u ∙ h .until-sized;
       runs-are = λ f c. by-test (eqb f d)
-          (λ z. let y : f ≡ d = eqb-true f d z in rw (y, moment-late t u (suc d) d (omega arith)) own-runs)
-          (λ z. let ne = eqb-false f d z in rw (moment-other t u d f ne) (other-runs f ne ∙ h .runs-are f c));
+          (λ z. let y : f ≡ d = eqb-true f d z in rw (y, moment-own t u M d) own-runs)
+          (λ z. let ne = eqb-false f d z in rw (moment-other t u M d f ne) (other-runs f ne ∙ h .runs-are f c));
       lasts = λ f c. by-test (eqb f d)
           (λ z. rw (eqb-true f d z) (inr (record { below = w .below; own = w .own; latest = w .latest })))
           (λ z. lasts-stay f (h .lasts f c) (eqb-false f d z));
@@ -123,5 +124,5 @@ module _ (J : Job) (sound : Sound J) (n : ℕ) (desks : List ℕ) (t u k : ℕ) 
           (λ z. let y : j ≡ place = eqb-true j place z in
           rw (y, getD-set-same (l .until) place u 0 room) (omega (arith, h .forward place (w .below), ended)))
           (λ z. rw (getD-set-other (l .until) place j u 0 (eqb-false j place z)) (h .forward j c));
-      few = omega (arith, h .few, scores-grow J n t u k e p count d);
+      few = omega (arith, h .few, scores-grow J n t u k e p count M d);
     }

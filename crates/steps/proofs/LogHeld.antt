@@ -1,12 +1,11 @@
 -- A log that has the runs of every desk up to the desk's moment; and what a desk's runs are once it is moved on.
 use Prim.Native.Nat.{ℕ, suc, _+_, _-_, _≤_, _<_}
-use mathlib.Core.Bool.{true, false}
+use mathlib.Core.Bool.{Bool, true, false}
 use mathlib.Core.List.{List, []}
 use mathlib.Core.Logic.{_⊎_}
 use mathlib.Core.Option.{none, some}
 use mathlib.Core.Path.{_≡_, sym, _∙_}
 use native.Mathlib.Omega.{arith}
-use borrow.Author.Tests.{eqb-true, eqb-false}
 use lib.Dec.{eqb}
 use lib.ListN.{length, getD}
 use Rattle.rules.specs.Words.{below}
@@ -21,8 +20,8 @@ use Rattle.slots.proofs.Growth.{runs-resting, runs-working}
 use Rattle.slots.proofs.Stretch.{keeps-choice}
 use Rattle.steps.specs.Log.{Log, loggedRuns}
 use Rattle.steps.proofs.LogLists.{ownRun}
-use Rattle.steps.proofs.Moved.{momentOf, moment-early, moment-late, moment-other}
-use Rattle.steps.proofs.Scores.{scores, scores-grow}
+use Rattle.steps.proofs.Moved.{momentOf, moment-early, moment-late}
+use Rattle.steps.proofs.Scores.{scores, scores-end}
 
 -- The desk's last run in the log: there is none, or it stands at the place that the table has.
 pub record Placed (desks : List ℕ) (l : Log) (d : ℕ) : Type 0 where
@@ -50,11 +49,8 @@ pub record LogHeld (J : Job) (n : ℕ) (desks : List ℕ) (τ : ℕ → ℕ) (l 
 
 module _ (J : Job) (sound : Sound J) (n : ℕ) (desks : List ℕ) (t u k : ℕ) (e : t + k ≡ u) (p : 0 < k) (s : Stretch J t k)
     (count : pieceCount J ≡ n) (small : n ≤ 256) (desk-is : (i : ℕ) → i < n → desk J i ≡ getD desks i 0) where
-  abbrev then-at : ℕ → ℕ → ℕ
-  then-at d = momentOf t u d
-
   -- The runs of a desk that rests, and of one that works, once it is moved on.
-  pub rested-runs : (d : ℕ) → worked J d t ≡ none → runsUntil J d u ≡ runsUntil J d t
+  rested-runs : (d : ℕ) → worked J d t ≡ none → runsUntil J d u ≡ runsUntil J d t
   rested-runs d q = rw (← e) (runs-resting J d t k (λ j l. keeps-choice J sound t k s j l d ∙ q))
 
   pub worked-runs : (d i : ℕ) → worked J d t ≡ some i → runsUntil J d u ≡ grown (runsUntil J d t) i t k
@@ -64,23 +60,19 @@ module _ (J : Job) (sound : Sound J) (n : ℕ) (desks : List ℕ) (t u k : ℕ) 
       let w = runs-working J d t (k - 1) i (λ j l. keeps-choice J sound t k s j (omega arith) d ∙ q) in
       rw (z, y) at w
 
-  -- A desk that rests leaves the log as it is.
-  pub resting-held : (d : ℕ) → worked J d t ≡ none → (l : Log) → LogHeld J n desks (then-at d) l
-      → LogHeld J n desks (then-at (suc d)) l
-  resting-held d q l h = record {
+  -- All desks that work were moved on: then the log has the runs of every desk up to moment u.
+  pub all-held : (M : ℕ → Bool) → ((d : ℕ) → d < 32 → M d ≡ false → worked J d t ≡ none) → (l : Log)
+      → LogHeld J n desks (momentOf t u M) l → LogHeld J n desks (λ d. u) l
+  all-held M rest l h = record {
     last-sized = h .last-sized;
     piece-sized = h .piece-sized;
     from-sized = h .from-sized;
     until-sized = h .until-sized;
-    runs-are = λ c b. h .runs-are c b ∙ moved-same c;
+    runs-are = λ d b. h .runs-are d b ∙ by-test (M d)
+        (λ m. rw (moment-late t u M d m))
+        (λ m. rw (moment-early t u M d m) (sym (rested-runs d (rest d b m))));
     lasts = h .lasts;
     inside = h .inside;
     forward = h .forward;
-    few = omega (arith, h .few, scores-grow J n t u k e p count d);
+    few = omega (arith, h .few, scores-end J n t u k e p count M);
   }
-    where
-      moved-same : (c : ℕ) → runsUntil J c (then-at d c) ≡ runsUntil J c (then-at (suc d) c)
-      moved-same c = by-test (eqb c d)
-          (λ z. let y : c ≡ d = eqb-true c d z in
-          rw (moment-early t u d c (omega arith), moment-late t u (suc d) c (omega arith), y) (sym (rested-runs d q)))
-          (λ z. rw (moment-other t u d c (eqb-false c d z)))

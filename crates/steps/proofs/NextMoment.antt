@@ -1,12 +1,13 @@
 -- The next moment over the tables: from the moment on until then nothing is decided, it comes as long as a piece is
 -- unfinished, and it lies within the horizon.
 use Prim.Native.Nat.{ℕ, _+_, _-_, _≤_, _<_}
-use mathlib.Core.Bool.{true}
+use mathlib.Core.Bool.{true, false}
+use mathlib.Core.List.{List}
 use mathlib.Core.Logic.{_⊎_, inl, inr}
 use mathlib.Core.Option.{none, some}
 use mathlib.Core.Path.{_≡_, sym, ap, _∙_}
 use native.Mathlib.Omega.{arith}
-use borrow.Author.Tests.{ltb-true, ltb-false, lt-ltb, eqb-true, eqb-false}
+use borrow.Author.Tests.{ltb-true, ltb-false, eqb-true, eqb-false}
 use lib.Dec.{ltb, eqb}
 use lib.ListN.{getD}
 use Rattle.rules.specs.Job.{Job, pieceCount, desk}
@@ -15,74 +16,78 @@ use Rattle.rules.specs.Tables.{Sound}
 use Rattle.rules.specs.Urgency.{worked, horizon}
 use Rattle.laws.proofs.Finishing.{all-finished, horizon-most}
 use Rattle.laws.proofs.Progress.{finished-for-good}
-use Rattle.laws.proofs.Slots.{by-choice, worked-chosen}
-use Rattle.laws.proofs.Words.{by-test, and-intro}
+use Rattle.laws.proofs.Slots.{worked-chosen, none-or-some, some-inj}
+use Rattle.laws.proofs.Words.{by-test}
 use Rattle.slots.specs.Standing.{waitsOf, readyOf}
 use Rattle.slots.specs.Stretch.{at, Stretch}
 use Rattle.slots.proofs.Ended.{Ended}
 use Rattle.slots.proofs.Stretch.{unfinished-through}
-use Rattle.steps.specs.Choice.{View, isDue, readyNext, choiceOf, nextOf, codeOf, never}
-use Rattle.steps.proofs.Decision.{Shown, due-facts, facts-due, choice-is}
-use Rattle.steps.proofs.Earliest.{later, ready-most, ready-counts, ready-above, ready-from, end-most, end-counts, end-above, end-from}
+use Rattle.steps.specs.Choice.{View, Decided, endNext, never}
+use Rattle.steps.proofs.Decision.{Shown, desks-are}
+use Rattle.steps.proofs.Earliest.{end-most, end-counts, end-above, end-from}
+use Rattle.steps.proofs.Moved.{Desks, movedBy, found-moved}
 
-module _ (J : Job) (n : ℕ) (v : View) (s : Shown J n v) where
-  -- Who stands in the table of choices is worked on, and who is worked on stands there.
-  pub resting-code : (d : ℕ) → d < 32 → worked J d (v .moment) ≡ none → getD (choiceOf v n) d 0 ≡ 256
-  unfolding codeOf
-  resting-code d h q = choice-is J n v s d h ∙ ap codeOf q
+module _ (J : Job) (n : ℕ) (v : View) (S : ℕ → Type 0) (s : Shown J n v S) (count : ℕ) (chosen busy : List ℕ) (next : ℕ)
+    (decided : Decided v S count chosen busy next) where
+  pub desks : Desks J (v .moment) count chosen busy
+  desks = desks-are J n v S s count chosen busy (decided .looked-at .choices) (decided .looked-at .working)
 
-  pub working-code : (d i : ℕ) → d < 32 → worked J d (v .moment) ≡ some i → getD (choiceOf v n) d 0 ≡ i
-  unfolding codeOf
-  working-code d i h q = choice-is J n v s d h ∙ ap codeOf q
+  abbrev whom : ℕ → ℕ
+  whom k = getD chosen (getD busy k 0) 0
 
-  chosen-worked : (d : ℕ) → d < 32 → getD (choiceOf v n) d 0 < 256
-      → worked J d (v .moment) ≡ some (getD (choiceOf v n) d 0)
-  chosen-worked d h l = by-choice (worked J d (v .moment))
-      (λ q. absurd (omega (arith, resting-code d h q)))
-      (λ i q. q ∙ ap some (sym (working-code d i h q)))
+  -- Who is worked on is an unfinished piece.
+  whom-waits : (k : ℕ) → k < count → (whom k < n) × (0 < getD (v .left) (whom k) 0)
+  whom-waits k h =
+      let w = worked-chosen J (getD busy k 0) (v .moment) (whom k) (desks .works k h) .waits in
+      let b : whom k < n = rw (s .count) at (w .inside) in
+      (b, rw (s .left-is (whom k) b) (w .unfinished))
 
-  chosen-waits : (d : ℕ) → d < 32 → getD (choiceOf v n) d 0 < 256
-      → (getD (choiceOf v n) d 0 < n) × (0 < getD (v .left) (getD (choiceOf v n) d 0) 0)
-  chosen-waits d h l =
-      let w = worked-chosen J d (v .moment) (getD (choiceOf v n) d 0) (chosen-worked d h l) .waits in
-      let b : getD (choiceOf v n) d 0 < n = rw (s .count) at (w .inside) in
-      (b, rw (s .left-is (getD (choiceOf v n) d 0) b) (w .unfinished))
-
-  abbrev next : ℕ
-  next = nextOf v n
-
-  -- It lies ahead.
+  -- The next moment lies ahead.
   pub next-ahead : v .moment < never → v .moment < next
-  unfolding nextOf
   next-ahead h =
-      end-above (v .moment) (v .left) (choiceOf v n) 32 (readyNext v n never) (ready-above v n never h)
-      (λ d l e. chosen-waits d l (ltb-true (getD (choiceOf v n) d 0) 256 e) .1)
+      rw (decided .next-is)
+      (end-above (v .moment) (v .left) chosen busy count (decided .start) (decided .looked-at .later .above h)
+      (λ k l. whom-waits k l .1))
 
   pub next-most : next ≤ never
-  unfolding nextOf
-  next-most = omega (arith, end-most (v .moment) (v .left) (choiceOf v n) 32 (readyNext v n never), ready-most v n never)
+  next-most =
+      omega (
+        arith,
+        decided .next-is,
+        end-most (v .moment) (v .left) chosen busy count (decided .start),
+        decided .looked-at .later .most,
+      )
 
   -- It comes no later than the end of a piece that is worked on, and no later than a piece becomes ready.
   desk-few : (i : ℕ) → i < n → desk J i < 32
   desk-few i h = rw (s .desk-is i h) (s .desk-most i h)
 
   next-end : (i : ℕ) → i < n → worked J (desk J i) (v .moment) ≡ some i → next ≤ v .moment + at J (v .moment) i .left
-  unfolding nextOf
-  next-end i h e =
-      let d : desk J i < 32 = desk-few i h in
-      let c : getD (choiceOf v n) (desk J i) 0 ≡ i = working-code (desk J i) i d e in
-      let w = end-counts (v .moment) (v .left) (choiceOf v n) 32 (readyNext v n never) (desk J i) d
-      (lt-ltb (getD (choiceOf v n) (desk J i) 0) 256 (omega (arith, s .few))) in
-      rw (c, s .left-is i h) at w
+  next-end i h e = by-test (movedBy busy count (desk J i))
+      (λ m. go (found-moved busy count (desk J i) m))
+      (λ m. none-or-some (sym (desks .rest (desk J i) (desk-few i h) m) ∙ e))
+    where
+      go : (k : ℕ) × (k < count) × (getD busy k 0 ≡ desk J i) → next ≤ v .moment + at J (v .moment) i .left
+      go w =
+          let c : whom (w .0) ≡ i =
+          some-inj (sym (desks .works (w .0) (w .1)) ∙ ap (λ d. worked J d (v .moment)) (w .2) ∙ e) in
+          omega (
+            arith,
+            decided .next-is,
+            rw (c, s .left-is i h) at
+                (end-counts (v .moment) (v .left) chosen busy count (decided .start) (w .0) (w .1)),
+          )
 
   next-ready : (i : ℕ) → i < n → 0 < at J (v .moment) i .left → waitsOf J (at J (v .moment)) i ≡ 0
       → v .moment < readyOf J (at J (v .moment)) i → next ≤ readyOf J (at J (v .moment)) i
-  unfolding nextOf
   next-ready i h l w b =
       let r : getD (v .ready) i 0 ≡ readyOf J (at J (v .moment)) i = s .ready-is i h in
-      let e : later v i ≡ true = and-intro _ _ (facts-due J n v s i h l w)
-      (lt-ltb (v .moment) (getD (v .ready) i 0) (omega arith)) in
-      omega (arith, end-most (v .moment) (v .left) (choiceOf v n) 32 (readyNext v n never), ready-counts v n never i h e)
+      omega (
+        arith,
+        decided .next-is,
+        end-most (v .moment) (v .left) chosen busy count (decided .start),
+        decided .looked-at .later .counts i (s .everyone i h l w) (omega arith),
+      )
 
   -- So nothing is decided until then.
   pub quiet-until : v .moment < never → Stretch J (v .moment) (next - v .moment)
@@ -95,17 +100,14 @@ module _ (J : Job) (n : ℕ) (v : View) (s : Shown J n v) where
 
   -- If it comes at all, a piece is unfinished.
   unfinished-one : (next ≡ never → ⊥) → (i : ℕ) × (i < n) × (0 < at J (v .moment) i .left)
-  unfolding nextOf
-  unfinished-one ne = go (end-from (v .moment) (v .left) (choiceOf v n) 32 (readyNext v n never)) (ready-from v n never)
+  unfinished-one ne =
+      go (end-from (v .moment) (v .left) chosen busy count (decided .start)) (decided .looked-at .later .from)
     where
-      go : (next ≡ readyNext v n never) ⊎ ((d : ℕ) × (d < 32) × (ltb (getD (choiceOf v n) d 0) 256 ≡ true))
-          → (readyNext v n never ≡ never) ⊎ ((i : ℕ) × (i < n) × (isDue v i ≡ true))
-          → (i : ℕ) × (i < n) × (0 < at J (v .moment) i .left)
-      go (inr w) r =
-          let c = chosen-waits (w .0) (w .1) (ltb-true (getD (choiceOf v n) (w .0) 0) 256 (w .2)) in
-          (getD (choiceOf v n) (w .0) 0, c .0, rw (s .left-is _ (c .0)) at (c .1))
-      go (inl e) (inl q) = absurd (ne (e ∙ q))
-      go (inl e) (inr w) = (w .0, w .1, due-facts J n v s (w .0) (w .1) (w .2) .0)
+      go : (endNext (v .moment) (v .left) chosen busy count (decided .start) ≡ decided .start) ⊎ (0 < count)
+          → (decided .start ≡ never) ⊎ ((j : ℕ) × S j) → (i : ℕ) × (i < n) × (0 < at J (v .moment) i .left)
+      go (inr w) r = let c = whom-waits 0 w in (whom 0, c .0, rw (s .left-is _ (c .0)) at (c .1))
+      go (inl e) (inl q) = absurd (ne (decided .next-is ∙ e ∙ q))
+      go (inl e) (inr w) = (w .0, s .inside (w .0) (w .1), s .unfinished (w .0) (w .1))
 
   module _ (sound : Sound J) (free : ringPiece J ≡ none) where
     -- An unfinished piece is so until just before the next moment, which therefore lies within the horizon.

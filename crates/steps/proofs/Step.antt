@@ -3,27 +3,29 @@
 use Prim.Native.Nat.{ℕ, _+_, _-_, _≤_, _<_}
 use mathlib.Core.List.{List}
 use mathlib.Core.Option.{none}
-use mathlib.Core.Path.{_≡_}
+use mathlib.Core.Path.{_≡_, sym, _∙_}
 use native.Mathlib.Omega.{arith}
 use lib.ListN.{getD}
 use Rattle.rules.specs.Job.{Job, desk}
 use Rattle.rules.specs.Rings.{ringPiece}
 use Rattle.rules.specs.Tables.{Sound}
-use Rattle.rules.specs.Urgency.{worked, horizon}
+use Rattle.rules.specs.Urgency.{horizon}
 use Rattle.laws.proofs.Finishing.{horizon-most}
 use Rattle.laws.proofs.Sound.{fits}
 use Rattle.slots.specs.Stretch.{at, Stretch}
 use Rattle.slots.proofs.Ended.{Ended}
-use Rattle.steps.specs.Choice.{View, view, choiceOf, nextOf, codeOf, never}
+use Rattle.steps.specs.Choice.{View, view, Decided, never}
+use Rattle.steps.specs.Opening.{Among, Opening}
 use Rattle.steps.specs.Handover.{Ties, ties, Waiting, handTo}
 use Rattle.steps.specs.Log.{Log, noteTo}
 use Rattle.steps.specs.Tables.{Tables, Listed}
 use Rattle.steps.specs.Work.{Work, workTo}
-use Rattle.steps.proofs.Decision.{Shown, choice-is}
+use Rattle.steps.proofs.Decision.{Shown}
 use Rattle.steps.proofs.LinkStep.{WaitHeld, hand-step}
 use Rattle.steps.proofs.LogHeld.{LogHeld}
 use Rattle.steps.proofs.LogStep.{note-step}
-use Rattle.steps.proofs.NextMoment.{next-ahead, next-most, quiet-until, no-next, next-within}
+use Rattle.steps.proofs.Moved.{Desks}
+use Rattle.steps.proofs.NextMoment.{desks, next-ahead, next-most, quiet-until, no-next, next-within}
 use Rattle.steps.proofs.WorkStep.{WorkHeld, work-step}
 
 -- The tables hold the plan at moment t.
@@ -40,20 +42,23 @@ module _ (J : Job) (sound : Sound J) (free : ringPiece J ≡ none) (T : Tables) 
   pub few-desks : (i : ℕ) → i < T .pieces → desk J i < 32
   few-desks i h = omega (arith, fits J sound i (rw (L .count) h) .desk-most)
 
-  module _ (t : ℕ) (w : Work) (s : Waiting) (l : Log) (h : Held J (T .pieces) (T .desks) t w s l) where
+  module _ (t : ℕ) (w : Work) (s : Waiting) (l : Log) (h : Held J (T .pieces) (T .desks) t w s l) (opened : ℕ)
+      (table : List ℕ) (o : Opening (T .pieces) opened table (w .left) (s .waits))
+      (fresh : (q : ℕ) → q < opened → 0 < getD (w .left) (getD table q 0) 0) where
     abbrev seen : View
-    seen = view t (T .desks) (T .latests) (w .left) (s .waits) (s .ready)
+    seen = view t (T .desks) (T .latests) (w .left) (s .ready)
 
-    abbrev next : ℕ
-    next = nextOf seen (T .pieces)
-
-    abbrev chosen : List ℕ
-    chosen = choiceOf seen (T .pieces)
+    abbrev openPiece : ℕ → Type 0
+    openPiece = Among table opened
 
     before-never : t < never
     before-never = omega (arith, h .in-time, horizon-most J sound free)
 
-    shown : Shown J (T .pieces) seen
+    -- The open pieces are the unfinished ones that wait for none.
+    open-inside : (i : ℕ) → openPiece i → i < T .pieces
+    open-inside i m = rw (m .2) at (o .inside (m .0) (m .1))
+
+    shown : Shown J (T .pieces) seen openPiece
     shown = record {
       count = L .count;
       few = few-pieces;
@@ -61,44 +66,52 @@ module _ (J : Job) (sound : Sound J) (free : ringPiece J ≡ none) (T : Tables) 
       desk-most = λ i b. rw (L .desk-is i b) at (few-desks i b);
       latest-is = L .latest-is;
       left-is = h .working .left-is;
-      waits-is = h .waiting .waits-is;
       ready-is = h .waiting .ready-is;
+      inside = open-inside;
+      unfinished = λ i m. rw (h .working .left-is i (open-inside i m)) at (rw (m .2) at (fresh (m .0) (m .1)));
+      idle = λ i m. sym (h .waiting .waits-is i (open-inside i m)) ∙ rw (m .2) at (o .idle (m .0) (m .1));
+      everyone = λ i b u z. o .everyone i b (h .waiting .waits-is i b ∙ z) (rw (h .working .left-is i b) u);
     }
 
-    pub ahead : t < next
-    ahead = next-ahead J (T .pieces) seen shown before-never
+    module _ (count : ℕ) (chosen busy : List ℕ) (next : ℕ) (decided : Decided seen openPiece count chosen busy next) where
+      pub ahead : t < next
+      ahead = next-ahead J (T .pieces) seen openPiece shown count chosen busy next decided before-never
 
-    pub at-most : next ≤ never
-    at-most = next-most J (T .pieces) seen shown
+      pub at-most : next ≤ never
+      at-most = next-most J (T .pieces) seen openPiece shown count chosen busy next decided
 
-    pub within : next < never → next ≤ horizon J
-    within c = next-within J (T .pieces) seen shown sound free before-never c
+      pub within : next < never → next ≤ horizon J
+      within c =
+          next-within J (T .pieces) seen openPiece shown count chosen busy next decided sound free before-never c
 
-    pub finished : next ≡ never → Ended J t
-    finished e = no-next J (T .pieces) seen shown sound free before-never e
+      pub finished : next ≡ never → Ended J t
+      finished e = no-next J (T .pieces) seen openPiece shown count chosen busy next decided sound free before-never e
 
-    abbrev linked : Ties
-    linked = ties (T .desks) (T .befores) (T .afters) (T .handovers)
+      abbrev linked : Ties
+      linked = ties (T .desks) (T .befores) (T .afters) (T .handovers)
 
-    abbrev works : Work
-    works = workTo (T .durations) t next chosen 32 w
+      abbrev works : Work
+      works = workTo (T .durations) t next chosen busy count w
 
-    pub step : next < never
-        → Held J (T .pieces) (T .desks) next works (handTo linked (T .links) next (works .left) chosen 32 s)
-        (noteTo t next chosen 32 l)
-    step c =
-        let e : t + (next - t) ≡ next = omega (arith, ahead) in
-        let p : 0 < next - t = omega (arith, ahead) in
-        let q : Stretch J t (next - t) = quiet-until J (T .pieces) seen shown before-never in
-        let is : (d : ℕ) → d < 32 → getD chosen d 0 ≡ codeOf (worked J d t) = choice-is J (T .pieces) seen shown in
-        let done : WorkHeld (T .pieces) (at J next) works =
-        work-step J sound (T .pieces) (T .durations) t next (next - t) e p q (L .count) few-pieces (L .duration-is)
-        chosen is few-desks w (h .working) in
-        record {
-          in-time = within c;
-          working = done;
-          waiting = hand-step J sound (T .pieces) (T .links) linked (L .count) few-pieces (L .desk-is) (L .links-are)
-              t next (next - t) e p q (works .left) (done .left-is) chosen is few-desks s (h .waiting);
-          logging = note-step J sound (T .pieces) (T .desks) t next (next - t) e p q (L .count) few-pieces (L .desk-is)
-              few-desks chosen is l (h .logging);
-        }
+      pub step : next < never
+          → Held J (T .pieces) (T .desks) next works
+          (handTo linked (T .links) next (works .left) chosen busy count s)
+          (noteTo t next chosen busy count l)
+      step c =
+          let e : t + (next - t) ≡ next = omega (arith, ahead) in
+          let p : 0 < next - t = omega (arith, ahead) in
+          let q : Stretch J t (next - t) =
+          quiet-until J (T .pieces) seen openPiece shown count chosen busy next decided before-never in
+          let D : Desks J t count chosen busy =
+          desks J (T .pieces) seen openPiece shown count chosen busy next decided in
+          let done : WorkHeld (T .pieces) (at J next) works =
+          work-step J sound (T .pieces) (T .durations) t next (next - t) e p q (L .count) few-pieces (L .duration-is)
+          count chosen busy D few-desks w (h .working) in
+          record {
+            in-time = within c;
+            working = done;
+            waiting = hand-step J sound (T .pieces) (T .links) linked (L .count) few-pieces (L .desk-is) (L .links-are)
+                t next (next - t) e p q (works .left) (done .left-is) count chosen busy D few-desks s (h .waiting);
+            logging = note-step J sound (T .pieces) (T .desks) t next (next - t) e p q (L .count) few-pieces (L .desk-is)
+                count chosen busy D l (h .logging);
+          }

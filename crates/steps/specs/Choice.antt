@@ -1,102 +1,108 @@
 -- One decision over the tables: who every desk works on from a moment on, and the next moment at which something is
 -- decided anew. 256 stands for no piece, and 4,294,967,295 for no later moment.
-use Prim.Native.Nat.{ℕ, zero, suc, _+_, min}
-use mathlib.Core.Bool.{Bool, true, _&&_}
+use Prim.Native.Nat.{ℕ, zero, suc, _+_, _≤_, _<_, min}
+use mathlib.Core.Bool.{Bool, true, false}
 use mathlib.Core.List.{List}
+use mathlib.Core.Logic.{_⊎_}
 use mathlib.Core.Option.{Option, none, some}
 use mathlib.Core.Path.{_≡_}
-use lib.Dec.{leb, ltb, eqb}
+use lib.Dec.{ltb}
 use lib.IntN.{ℤ, pos}
-use lib.ListN.{getD, set, replicate}
+use lib.ListN.{length, getD, set}
 use lib.Signed.{ltZ}
 use Rattle.rules.specs.Words.{when}
+use Rattle.links.specs.Links.{counted}
+use Rattle.steps.specs.Opening.{Among}
 
--- What a decision looks at: the moment, and for each piece its desk, its latest moment, the slots left of it, how many
--- unfinished pieces it waits for, and from when on it may be ready.
+-- What a decision looks at: the moment, and for each piece its desk, its latest moment, the slots left of it, and from
+-- when on it may be ready.
 pub record View : Type 0 where
   pub moment : ℕ
   pub desks : List ℕ
   pub latests : List ℤ
   pub left : List ℕ
-  pub waits : List ℕ
   pub ready : List ℕ
 
-abbrev pub view : ℕ → List ℕ → List ℤ → List ℕ → List ℕ → List ℕ → View
-view t desks latests left waits ready =
-    record { moment = t; desks = desks; latests = latests; left = left; waits = waits; ready = ready }
+abbrev pub view : ℕ → List ℕ → List ℤ → List ℕ → List ℕ → View
+view t desks latests left ready =
+    record { moment = t; desks = desks; latests = latests; left = left; ready = ready }
 
--- Piece i goes before piece x, which was the best so far: its latest moment is smaller, or there was none.
+-- Piece i goes before piece x: its latest moment is smaller, or on an equal one its number is.
 unfoldable pub goesFirst : List ℤ → ℕ → ℕ → Bool
 unfolding when
-goesFirst latests i x = when (ltb x 256) (ltZ (getD latests i (pos 0)) (getD latests x (pos 0))) true
+goesFirst latests i x =
+    when (ltZ (getD latests i (pos 0)) (getD latests x (pos 0))) true
+    (when (ltZ (getD latests x (pos 0)) (getD latests i (pos 0))) false (ltb i x))
 
--- Piece i put up for desk d.
-unfoldable pub offered : List ℤ → ℕ → ℕ → List ℕ → List ℕ
-unfolding when goesFirst
-offered latests i d chosen = when (goesFirst latests i (getD chosen d 0)) (set chosen d i) chosen
-
-module _ (v : View) where
-  -- Piece i is unfinished and waits for no piece.
-  unfoldable pub isDue : ℕ → Bool
-  isDue i = ltb 0 (getD (v .left) i 0) && eqb (getD (v .waits) i 0) 0
-
-  -- One piece looked at: it is put up for its desk if it is ready, and else the moment counts from which it is.
-  unfoldable pub consideredBy : ℕ → List ℕ → List ℕ
-  unfolding when isDue offered
-  consideredBy i chosen =
-      when (isDue i && leb (getD (v .ready) i 0) (v .moment))
-      (offered (v .latests) i (getD (v .desks) i 0) chosen) chosen
-
-  unfoldable pub momentWith : ℕ → ℕ → ℕ
-  unfolding when isDue
-  momentWith i next =
-      when (isDue i && ltb (v .moment) (getD (v .ready) i 0)) (min next (getD (v .ready) i 0)) next
-
-  -- The first n pieces looked at.
-  unfoldable pub chosenFrom : ℕ → List ℕ → List ℕ
-  unfolding consideredBy
-  chosenFrom zero chosen = chosen
-  chosenFrom (suc i) chosen = consideredBy i (chosenFrom i chosen)
-
-  unfoldable pub readyNext : ℕ → ℕ → ℕ
-  unfolding momentWith
-  readyNext zero next = next
-  readyNext (suc i) next = momentWith i (readyNext i next)
-
--- The moment at which piece x would be finished counts too.
-unfoldable pub endWith : ℕ → List ℕ → ℕ → ℕ → ℕ
-unfolding when
-endWith t left x next = when (ltb x 256) (min next (t + getD left x 0)) next
-
--- The same for the pieces chosen by the first d desks.
-unfoldable pub endNext : ℕ → List ℕ → List ℕ → ℕ → ℕ → ℕ
-unfolding endWith
-endNext t left chosen zero next = next
-endNext t left chosen (suc d) next = endWith t left (getD chosen d 0) (endNext t left chosen d next)
-
--- The whole decision over n pieces: who every desk works on, and the next moment.
 abbrev pub never : ℕ
 never = 4294967295
 
-unfoldable pub choiceOf : View → ℕ → List ℕ
-choiceOf v n = chosenFrom v n (replicate 32 256)
+-- Among the pieces of S, all unfinished and waiting for none.
+module _ (v : View) (S : ℕ → Type 0) where
+  -- Piece i asks for desk d: it is on it, and ready.
+  abbrev pub Asks : ℕ → ℕ → Type 0
+  Asks d i = (getD (v .desks) i 0 ≡ d) × (getD (v .ready) i 0 ≤ v .moment)
 
-unfoldable pub nextOf : View → ℕ → ℕ
-nextOf v n = endNext (v .moment) (v .left) (choiceOf v n) 32 (readyNext v n never)
+  -- Piece x asks for desk d, and goes before the others that do.
+  pub record Best (d x : ℕ) : Type 0 where
+    pub inside : S x
+    pub asks : Asks d x
+    pub first : (j : ℕ) → S j → Asks d j → (j ≡ x → ⊥) → goesFirst (v .latests) x j ≡ true
 
--- What becomes of the choices and of the next moment: after piece i was looked at, after the first n pieces were, and
--- in the whole decision.
-pub record Considered (v : View) (i : ℕ) (chosen : List ℕ) (next : ℕ) (chosen′ : List ℕ) (next′ : ℕ) : Type 0 where
-  pub chosen-is : chosen′ ≡ consideredBy v i chosen
-  pub next-is : next′ ≡ momentWith v i next
+  -- The choice x of desk d.
+  unfoldable pub Choice : ℕ → ℕ → Type 0
+  Choice d x = ((x ≡ 256) × ((j : ℕ) → S j → Asks d j → ⊥)) ⊎ Best d x
 
-pub record LookedAt (v : View) (n : ℕ) (chosen chosen′ : List ℕ) (next′ : ℕ) : Type 0 where
-  pub chosen-is : chosen′ ≡ chosenFrom v n chosen
-  pub next-is : next′ ≡ readyNext v n never
+  -- The first later moment at which one of them becomes ready.
+  pub record Later (next : ℕ) : Type 0 where
+    pub most : next ≤ never
+    pub above : v .moment < never → v .moment < next
+    pub counts : (j : ℕ) → S j → v .moment < getD (v .ready) j 0 → next ≤ getD (v .ready) j 0
+    pub from : (next ≡ never) ⊎ ((j : ℕ) × S j)
 
-pub record Decided (v : View) (n : ℕ) (chosen′ : List ℕ) (next′ : ℕ) : Type 0 where
-  pub chosen-is : chosen′ ≡ choiceOf v n
-  pub next-is : next′ ≡ nextOf v n
+-- The desks that chose a piece, each once, in the first `count` places of a table.
+pub record Busy (count : ℕ) (chosen busy : List ℕ) : Type 0 where
+  pub chosen-sized : length chosen ≡ 32
+  pub busy-sized : length busy ≡ 32
+  pub as-many : counted (λ d. ltb (getD chosen d 0) 256) 32 ≡ count
+  pub desk-most : (k : ℕ) → k < count → getD busy k 0 < 32
+  pub someone : (k : ℕ) → k < count → getD chosen (getD busy k 0) 0 < 256
+  pub once : (p q : ℕ) → p < count → q < count → getD busy p 0 ≡ getD busy q 0 → p ≡ q
+  pub everyone : (d : ℕ) → d < 32 → getD chosen d 0 < 256 → Among busy count d
+
+-- Piece i put up for desk d: it takes the desk if nobody asked for it yet, or if it goes before who did.
+pub record Picks : Type 0 where
+  pub count : ℕ
+  pub chosen : List ℕ
+  pub busy : List ℕ
+
+abbrev pub picks : ℕ → List ℕ → List ℕ → Picks
+picks count chosen busy = record { count = count; chosen = chosen; busy = busy }
+
+unfoldable pub offered : List ℤ → ℕ → ℕ → Picks → Picks
+unfolding when goesFirst
+offered latests i d p =
+    when (ltb (getD (p .chosen) d 0) 256)
+    (when (goesFirst latests i (getD (p .chosen) d 0)) (picks (p .count) (set (p .chosen) d i) (p .busy)) p)
+    (picks (p .count + 1) (set (p .chosen) d i) (set (p .busy) (p .count) d))
+
+-- The moments at which the pieces chosen by the first k of the desks that work would be finished count too.
+unfoldable pub endNext : ℕ → List ℕ → List ℕ → List ℕ → ℕ → ℕ → ℕ
+endNext t left chosen busy zero next = next
+endNext t left chosen busy (suc k) next =
+    min (endNext t left chosen busy k next) (t + getD left (getD chosen (getD busy k 0) 0) 0)
+
+-- The open pieces looked at: every desk's choice, the desks that work, and the first moment at which one becomes ready.
+pub record LookedAt (v : View) (S : ℕ → Type 0) (count : ℕ) (chosen busy : List ℕ) (next : ℕ) : Type 0 where
+  pub choices : (d : ℕ) → d < 32 → Choice v S d (getD chosen d 0)
+  pub working : Busy count chosen busy
+  pub later : Later v S next
+
+-- The whole decision: the next moment is that one, or an end before it.
+pub record Decided (v : View) (S : ℕ → Type 0) (count : ℕ) (chosen busy : List ℕ) (next : ℕ) : Type 0 where
+  pub start : ℕ
+  pub looked-at : LookedAt v S count chosen busy start
+  pub next-is : next ≡ endNext (v .moment) (v .left) chosen busy count start
 
 -- The number that stands for who a desk works on.
 unfoldable pub codeOf : Option ℕ → ℕ

@@ -1,16 +1,9 @@
 -- What the links do to the tables of waits and of ready moments when the piece before them is finished.
 use Prim.Native.Nat.{ℕ, zero, suc, _+_, _-_, _≤_, _<_, max}
-use mathlib.Core.Bool.{_&&_}
 use mathlib.Core.List.{List}
-use lib.Dec.{ltb, eqb}
+use lib.Dec.{eqb}
 use lib.ListN.{getD, set}
 use Rattle.rules.specs.Words.{when}
-
--- Of the first m links, those into piece i.
-unfoldable pub intoOf : List ℕ → ℕ → ℕ → ℕ
-unfolding when
-intoOf afters i zero = 0
-intoOf afters i (suc k) = intoOf afters i k + when (eqb (getD afters k 0) i) 1 0
 
 -- The links' tables, with the desks of the pieces; and the tables that the links change.
 pub record Ties : Type 0 where
@@ -54,16 +47,17 @@ module _ (l : Ties) where
   passFrom p c zero s = s
   passFrom p c (suc k) s = passFrom p c k (when (eqb (getD (l .befores) k 0) p) (passed c k s) s)
 
-  -- Piece i was worked on until moment c: nothing is passed on unless that finished it. 256 stands for no piece.
+  -- Piece i was worked on until moment c: nothing is passed on unless that finished it.
   unfoldable pub handOn : ℕ → ℕ → List ℕ → ℕ → Waiting → Waiting
   unfolding when passFrom
-  handOn m c left i s = when (ltb i 256 && eqb (getD left i 0) 0) (passFrom i c m s) s
+  handOn m c left i s = when (eqb (getD left i 0) 0) (passFrom i c m s) s
 
-  -- The same for the pieces that the first d desks chose.
-  unfoldable pub handTo : ℕ → ℕ → List ℕ → List ℕ → ℕ → Waiting → Waiting
+  -- The same for the pieces that the first k of the desks that work chose.
+  unfoldable pub handTo : ℕ → ℕ → List ℕ → List ℕ → List ℕ → ℕ → Waiting → Waiting
   unfolding handOn
-  handTo m c left chosen zero s = s
-  handTo m c left chosen (suc d) s = handOn m c left (getD chosen d 0) (handTo m c left chosen d s)
+  handTo m c left chosen busy zero s = s
+  handTo m c left chosen busy (suc k) s =
+      handOn m c left (getD chosen (getD busy k 0) 0) (handTo m c left chosen busy k s)
 
 -- Every link of the first m names two of at most 256 pieces.
 pub record Named (m : ℕ) (befores afters : List ℕ) : Type 0 where

@@ -1,5 +1,6 @@
 -- The log of the runs in the order in which they begin: for each run its piece, its first slot and one past its last.
--- `last` has for each desk the place of its last run, 512 where it has none; 256 stands for no piece.
+-- `last` has for each desk the place of its last run, 512 where it has none; `busy` has the desks that work, and `chosen`
+-- for each of them its piece.
 use Prim.Native.Nat.{ℕ, zero, suc, _+_, _-_}
 use mathlib.Core.Bool.{Bool, _&&_}
 use mathlib.Core.List.{List, map}
@@ -36,16 +37,14 @@ module _ (t next : ℕ) where
   unfoldable pub noteOn : ℕ → ℕ → Log → Log
   unfolding when stays
   noteOn d i l =
-      when (ltb i 256)
-      (when (stays (l .piece) (l .until) (getD (l .last) d 0) i t) (lengthened (getD (l .last) d 0) l)
-      (when (ltb (l .runs) 512) (begun d i l) l))
-      l
+      when (stays (l .piece) (l .until) (getD (l .last) d 0) i t) (lengthened (getD (l .last) d 0) l)
+      (when (ltb (l .runs) 512) (begun d i l) l)
 
-  -- The same for the first d desks.
-  unfoldable pub noteTo : List ℕ → ℕ → Log → Log
+  -- The same for the first k of the desks that work.
+  unfoldable pub noteTo : List ℕ → List ℕ → ℕ → Log → Log
   unfolding noteOn
-  noteTo chosen zero l = l
-  noteTo chosen (suc d) l = noteOn d (getD chosen d 0) (noteTo chosen d l)
+  noteTo chosen busy zero l = l
+  noteTo chosen busy (suc k) l = noteOn (getD busy k 0) (getD chosen (getD busy k 0) 0) (noteTo chosen busy k l)
 
 -- The run at place k, and the runs of desk d in the order of the log. A run's desk is that of its piece.
 abbrev pub runAt : List ℕ → List ℕ → List ℕ → ℕ → Run

@@ -1,8 +1,8 @@
 -- The slots up to the next decision moment worked at once: what that makes of the tables of slots left, start and finish.
--- 256 stands for no piece.
+-- `busy` has the desks that work, and `chosen` for each of them its piece.
 use Prim.Native.Nat.{ℕ, zero, suc, _-_}
 use mathlib.Core.List.{List}
-use lib.Dec.{ltb, eqb}
+use lib.Dec.{eqb}
 use lib.ListN.{getD, set}
 use Rattle.rules.specs.Words.{when}
 
@@ -19,16 +19,11 @@ module _ (durations : List ℕ) (t next : ℕ) where
   abbrev pub forth : ℕ → Work → Work
   forth i w = record {
     left = set (w .left) i (getD (w .left) i 0 - (next - t));
-    start = set (w .start) i (when (eqb (getD (w .left) i 0) (getD durations i 0)) t (getD (w .start) i 0));
+    start = when (eqb (getD (w .left) i 0) (getD durations i 0)) (set (w .start) i t) (w .start);
     finish = set (w .finish) i next;
   }
 
-  unfoldable pub workOn : ℕ → Work → Work
-  unfolding when
-  workOn i w = when (ltb i 256) (forth i w) w
-
-  -- The first d desks work on what they chose.
-  unfoldable pub workTo : List ℕ → ℕ → Work → Work
-  unfolding workOn
-  workTo chosen zero w = w
-  workTo chosen (suc d) w = workOn (getD chosen d 0) (workTo chosen d w)
+  -- The first k of the desks that work do so.
+  unfoldable pub workTo : List ℕ → List ℕ → ℕ → Work → Work
+  workTo chosen busy zero w = w
+  workTo chosen busy (suc k) w = forth (getD chosen (getD busy k 0) 0) (workTo chosen busy k w)

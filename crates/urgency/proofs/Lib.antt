@@ -1,3 +1,4 @@
--- The tables before the first slot, and from the contract's side to the steps'.
+-- From the contract's side to the steps', the tables filled, and the table of the open pieces.
 pub mod Filled
+pub mod OpenTable
 pub mod Planned

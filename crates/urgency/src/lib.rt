@@ -64,24 +64,63 @@ pub fn plan(
         (now (start .exit)) (now (finish .exit)) (now (piece .exit)) (now (from .exit)) (now (until .exit)) r ⌝ }
 {
     let mut left = [0u32; 256];
-    let mut waits = [0u32; 256];
+    let mut waits = [0u16; 256];
     let mut ready = [0u32; 256];
     let mut tail = [0u16; 256];
     let mut prior = [0u16; 1024];
-    let mut chosen = [256usize; 32];
+    let mut table = [0u16; 256];
+    let mut chosen = [256u16; 32];
+    let mut busy = [0u16; 32];
     let mut last = [512usize; 32];
     begin(n, durations, releases, &mut left, &mut ready, start, finish);
-    handover::count(m, afters, &mut waits);
+    links::queue::count_into(afters, m, &mut waits);
     links::chains::chain_links(befores, m, &mut tail, &mut prior);
+    let mut opened = links::queue::place_free(n, &waits, &mut table);
     let mut runs = 0;
     let mut t = 0;
-    let mut next = deciding::decide(n, t, desks, latests, &left, &waits, &ready, &mut chosen);
-    while next < deciding::NEVER {
-        work::work_all(t, next, durations, &chosen, &mut left, start, finish);
-        runs = log::note_all(t, next, runs, &chosen, &mut last, piece, from, until);
-        handover::hand_all(
+    loop {
+        let look = deciding::decide(
+            t,
+            opened,
+            desks,
+            latests,
+            &left,
+            &ready,
+            &mut table,
+            &mut chosen,
+            &mut busy,
+        );
+        if deciding::NEVER <= look.next {
+            return runs;
+        }
+        work::work_all(
+            t,
+            look.next,
+            look.count,
+            durations,
+            &chosen,
+            &busy,
+            &mut left,
+            start,
+            finish,
+        );
+        runs = log::note_all(
+            t,
+            look.next,
+            runs,
+            look.count,
+            &chosen,
+            &busy,
+            &mut last,
+            piece,
+            from,
+            until,
+        );
+        opened = handover::hand_all(
             m,
-            next,
+            look.next,
+            look.opened,
+            look.count,
             desks,
             befores,
             afters,
@@ -89,12 +128,12 @@ pub fn plan(
             &tail,
             &prior,
             &chosen,
+            &busy,
             &left,
             &mut waits,
             &mut ready,
+            &mut table,
         );
-        t = next;
-        next = deciding::decide(n, t, desks, latests, &left, &waits, &ready, &mut chosen);
+        t = look.next;
     }
-    runs
 }

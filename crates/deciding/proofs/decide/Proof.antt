@@ -1,23 +1,26 @@
--- `decide` clears the choices, looks at all pieces and then at the ends of those chosen: together that is the whole
+-- `decide` clears the choices, looks at the open pieces and then at the ends of those chosen: together that is the whole
 -- decision.
+use mathlib.Core.Path.{refl}
+use native.Mathlib.Omega.{arith}
 use borrow.Author.Needs.{needs}
-use Rattle.steps.specs.Choice.{view}
-use Rattle.deciding.proofs.Turns.{decided}
+use lib.ListN.{getD-replicate}
 use Rattle.deciding.proofs.decide.Statement.{statement}
 use Rattle.deciding.proofs.decide.Tie as tie
 
 choose-requires : tie.Need-choose-requires
-choose-requires c κs = search needs
+choose-requires c κs =
+    let s = c .before .before .before .before in
+    (s .pre .0, (s .pre .1 .0, refl, λ d h. getD-replicate 32 d 256 0 h))
 
 first-end-requires : tie.Need-first-end-requires
-first-end-requires c κs = tt
+first-end-requires c κs =
+    let k = c .before .before in
+    let s = k .before .before .before .before .before in
+    let l = k .choose .ensures .1 in
+    (l .working, omega (arith, l .later .above (s .pre .1 .1)))
 
 returns : tie.Need-returns
-returns c =
-    let a = c .before .before .before .before .before .args in
-    let v = view (a .t) (a .desks .now) (a .latests .now) (a .left .now) (a .waits .now) (a .ready .now) in
-    let o = c .before .before .choose in
-    decided v (a .n) _ (o .result) (c .first-end .result) (o .ensures) (c .first-end .ensures)
+returns c = search needs
 
 pub decide-spec : {M : Type 1} → statement M
 decide-spec = tie.close (tie.spec choose-requires first-end-requires returns)

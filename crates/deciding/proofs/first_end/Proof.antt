@@ -1,48 +1,98 @@
--- `first_end` goes over the desks. The loop's invariant: the least moment so far is that over the first d desks.
-use Prim.Native.Nat.{_≤_, _-_}
-use mathlib.Core.Path.{_≡_, refl}
+-- `first_end` goes over the desks that work. The loop's invariant: so many slots from the moment on is the
+-- least moment over the first q of them.
+use Prim.Native.Nat.{_+_, _≤_, _<_, _-_}
+use mathlib.Core.Path.{_≡_}
 use native.Mathlib.Omega.{arith}
+use lib.ListN.{getD}
 use Rattle.steps.specs.Choice.{endNext}
-use Rattle.deciding.proofs.Turns.{end-more}
+use Rattle.steps.proofs.Decision.{busy-few}
+use Rattle.steps.proofs.Earliest.{end-most}
+use Rattle.deciding.proofs.Ends.{end-more}
 use Rattle.deciding.proofs.first_end.Statement.{statement}
 use Rattle.deciding.proofs.first_end.Tie as tie
 
 abbrev Inv-loop : tie.InvT-loop
-Inv-loop t next left chosen least₀ d₀ least d = (d ≤ 32) × (least ≡ endNext t left chosen d next)
+Inv-loop t next count left chosen busy slots₀ q₀ slots q =
+    (q ≤ count) × (t + slots ≡ endNext t left chosen busy q next)
 
 abbrev μ-loop : tie.MeasureT-loop
-μ-loop t next left chosen least₀ d₀ least d = 32 - d
+μ-loop t next count left chosen busy slots₀ q₀ slots q = count - q
+
+sub-slots : tie.Need-sub-slots Inv-loop μ-loop
+sub-slots c = omega arith
 
 loop-holds : tie.Need-loop-holds Inv-loop μ-loop
 unfolding endNext
-loop-holds c = (omega arith, refl)
+loop-holds c = (omega arith, omega arith)
 
-mul-earlier-end : tie.Need-mul-earlier-end Inv-loop μ-loop
-mul-earlier-end c = omega arith
+-- The place looked at, and the desk in it, are inside the tables.
+place-in : (c : tie.In-loop Inv-loop μ-loop) → c .before .loop .q < 32
+place-in c =
+    let s = c .before .before in
+    omega (arith, c .loop-test .taken, busy-few (s .args .count) (s .args .chosen .now) (s .args .busy .now) (s .pre .0))
 
-element-copy-out-earlier-end : tie.Need-element-copy-out-earlier-end Inv-loop μ-loop
-element-copy-out-earlier-end c = omega arith
+desk-in : (c : tie.In-loop Inv-loop μ-loop) → getD (c .before .before .args .busy .now) (c .before .loop .q) 0 < 32
+desk-in c = c .before .before .pre .0 .desk-most (c .before .loop .q) (c .loop-test .taken)
 
-earlier-end-requires : tie.Need-earlier-end-requires Inv-loop μ-loop
-earlier-end-requires c κs = tt
+piece-in : (c : tie.In-loop Inv-loop μ-loop)
+    → getD (c .before .before .args .chosen .now) (getD (c .before .before .args .busy .now) (c .before .loop .q) 0) 0 < 256
+piece-in c = c .before .before .pre .0 .someone (c .before .loop .q) (c .loop-test .taken)
 
-add-d : tie.Need-add-d Inv-loop μ-loop
-add-d c = omega arith
+mul-d : tie.Need-mul-d Inv-loop μ-loop
+mul-d c = omega (arith, place-in c)
+
+element-copy-out-d : tie.Need-element-copy-out-d Inv-loop μ-loop
+element-copy-out-d c = place-in c
+
+cast-d : tie.Need-cast-d Inv-loop μ-loop
+cast-d c = omega (arith, desk-in (c .before))
+
+mul-i : tie.Need-mul-i Inv-loop μ-loop
+mul-i c = omega (arith, desk-in (c .before))
+
+element-copy-out-i : tie.Need-element-copy-out-i Inv-loop μ-loop
+element-copy-out-i c = desk-in (c .before)
+
+cast-i : tie.Need-cast-i Inv-loop μ-loop
+cast-i c = omega (arith, piece-in (c .before .before))
+
+mul-lesser : tie.Need-mul-lesser Inv-loop μ-loop
+mul-lesser c = omega (arith, piece-in (c .before .before))
+
+element-copy-out-lesser : tie.Need-element-copy-out-lesser Inv-loop μ-loop
+element-copy-out-lesser c = piece-in (c .before .before)
+
+lesser-requires : tie.Need-lesser-requires Inv-loop μ-loop
+lesser-requires c κs = tt
+
+add-q : tie.Need-add-q Inv-loop μ-loop
+add-q c = omega (arith, place-in (c .before .before .before .before))
 
 loop-less : tie.Need-loop-less Inv-loop μ-loop
 loop-less c = omega arith
 
 loop-again : tie.Need-loop-again Inv-loop μ-loop
 loop-again c =
-    let a = c .before .before .before .before .args in
-    let l = c .before .before .before .loop in (
+    let t = c .before .before .before .before in
+    let a = t .before .before .args in
+    let l = t .before .loop in (
       omega arith,
-      end-more (a .t) (a .left .now) (a .chosen .now) (l .d) (a .next) (l .least) (c .earlier-end .result) (l .inv .1)
-          (c .earlier-end .ensures),
+      end-more (a .t) (a .left .now) (a .chosen .now) (a .busy .now) (l .q) (a .next) (a .t + l .slots)
+          (a .t + c .lesser .result) (l .inv .1) (omega (arith, c .lesser .ensures)),
+    )
+
+add-result : tie.Need-add-result Inv-loop μ-loop
+add-result c =
+    let a = c .before .before .args in
+    omega (
+      arith,
+      c .before .loop .inv .1,
+      end-most (a .t) (a .left .now) (a .chosen .now) (a .busy .now) (c .before .loop .q) (a .next),
     )
 
 returns : tie.Need-returns Inv-loop μ-loop
-returns c = let e : c .before .loop .d ≡ 32 = omega arith in rw e at (c .before .loop .inv .1)
+returns c =
+    let e : c .before .loop .q ≡ c .before .before .args .count = omega arith in rw e at (c .before .loop .inv .1)
 
 pub first-end-spec : {M : Type 1} → statement M
 first-end-spec =
@@ -50,11 +100,19 @@ first-end-spec =
     (tie.spec
     Inv-loop
     μ-loop
+    sub-slots
     loop-holds
-    mul-earlier-end
-    element-copy-out-earlier-end
-    earlier-end-requires
-    add-d
+    mul-d
+    element-copy-out-d
+    cast-d
+    mul-i
+    element-copy-out-i
+    cast-i
+    mul-lesser
+    element-copy-out-lesser
+    lesser-requires
+    add-q
     loop-less
     loop-again
+    add-result
     returns)

@@ -1,53 +1,72 @@
--- `goes_first` compares two latest moments. They are signed numbers, which the machine reads back out of their bits.
+-- `goes_first` compares two latest moments and then two numbers. The moments are signed numbers, which the machine reads
+-- back out of their bits.
+use Prim.Native.Nat.{ℕ}
+use mathlib.Core.Bool.{Bool, true, false}
+use mathlib.Core.List.{List}
+use mathlib.Core.Path.{_≡_, sym}
 use native.Mathlib.Omega.{arith}
-use borrow.Author.Tests.{le-ltb, lt-ltb}
-use lib.IntN.{pos}
+use lib.Dec.{ltb}
+use lib.IntN.{ℤ, pos}
 use lib.ListN.{getD}
+use lib.Signed.{ltZ}
 use mir.Syntax.{w32}
 use mir.ValLaws.{toZ-ofZ}
+use Rattle.rules.specs.Words.{when}
 use Rattle.steps.specs.Choice.{goesFirst}
 use Rattle.deciding.proofs.goes_first.Statement.{statement}
 use Rattle.deciding.proofs.goes_first.Tie as tie
 
--- src/choice.rt:21:16
-mul-result : tie.Need-mul-result
-mul-result c = omega arith
+-- By the ways the code takes.
+module _ (latests : List ℤ) (i x : ℕ) where
+  smaller : ltZ (getD latests i (pos 0)) (getD latests x (pos 0)) ≡ true → true ≡ goesFirst latests i x
+  unfolding goesFirst when
+  smaller a = rw a
 
--- src/choice.rt:21:16
-element-copy-out-result : tie.Need-element-copy-out-result
-element-copy-out-result c = omega arith
+  greater : ltZ (getD latests i (pos 0)) (getD latests x (pos 0)) ≡ false
+      → ltZ (getD latests x (pos 0)) (getD latests i (pos 0)) ≡ true → false ≡ goesFirst latests i x
+  unfolding goesFirst when
+  greater a b = rw (a, b)
 
--- src/choice.rt:21:29
-mul-result-2 : tie.Need-mul-result-2
-mul-result-2 c = omega arith
+  equal : ltZ (getD latests i (pos 0)) (getD latests x (pos 0)) ≡ false
+      → ltZ (getD latests x (pos 0)) (getD latests i (pos 0)) ≡ false → ltb i x ≡ goesFirst latests i x
+  unfolding goesFirst when
+  equal a b = rw (a, b)
 
--- src/choice.rt:21:29
-element-copy-out-result-2 : tie.Need-element-copy-out-result-2
-element-copy-out-result-2 c = omega arith
+mul-a : tie.Need-mul-a
+mul-a c = omega arith
 
--- src/choice.rt:21:9
+element-copy-out-a : tie.Need-element-copy-out-a
+element-copy-out-a c = omega arith
+
+mul-b : tie.Need-mul-b
+mul-b c = omega arith
+
+element-copy-out-b : tie.Need-element-copy-out-b
+element-copy-out-b c = omega arith
+
 returns : tie.Need-returns
-unfolding goesFirst
 returns c =
     let a = c .before .before .before .args in
-    simp (
-      toZ-ofZ w32 (getD (a .latests .now) (a .i) (pos 0)) (record { sfits = c .before .result .given }),
-      toZ-ofZ w32 (getD (a .latests .now) (a .so-far) (pos 0)) (record { sfits = c .result2 .given }),
-      lt-ltb (a .so-far) 256 (c .before .before .if1 .taken),
-    )
+    smaller (a .latests .now) (a .i) (a .x) (simp (
+      toZ-ofZ w32 (getD (a .latests .now) (a .i) (pos 0)) (record { sfits = c .before .before .a .given }),
+      toZ-ofZ w32 (getD (a .latests .now) (a .x) (pos 0)) (record { sfits = c .before .b .given }),
+    ) at (c .if1 .taken))
 
--- src/choice.rt:16:1
 returns-2 : tie.Need-returns-2
-unfolding goesFirst
-returns-2 c = simp (le-ltb (c .before .args .so-far) 256 (c .if1 .left))
+returns-2 c =
+    let a = c .before .before .before .before .args in
+    let e = c .before in
+    let own = toZ-ofZ w32 (getD (a .latests .now) (a .i) (pos 0)) (record { sfits = e .before .before .a .given }) in
+    let other = toZ-ofZ w32 (getD (a .latests .now) (a .x) (pos 0)) (record { sfits = e .before .b .given }) in
+    greater (a .latests .now) (a .i) (a .x) (simp (own, other) at (e .if1 .left)) (simp (own, other) at (c .if2 .taken))
+
+returns-3 : tie.Need-returns-3
+returns-3 c =
+    let a = c .before .before .before .before .args in
+    let e = c .before in
+    let own = toZ-ofZ w32 (getD (a .latests .now) (a .i) (pos 0)) (record { sfits = e .before .before .a .given }) in
+    let other = toZ-ofZ w32 (getD (a .latests .now) (a .x) (pos 0)) (record { sfits = e .before .b .given }) in
+    equal (a .latests .now) (a .i) (a .x) (simp (own, other) at (e .if1 .left)) (simp (own, other) at (c .if2 .left))
 
 pub goes-first-spec : {M : Type 1} → statement M
-goes-first-spec =
-    tie.close
-    (tie.spec
-    mul-result
-    element-copy-out-result
-    mul-result-2
-    element-copy-out-result-2
-    returns
-    returns-2)
+goes-first-spec = tie.close (tie.spec mul-a element-copy-out-a mul-b element-copy-out-b returns returns-2 returns-3)

@@ -1,23 +1,26 @@
--- The plan meets its contract. The loop's invariant: the tables hold the plan at moment t, and the choices and the next
--- moment are decided; a turn brings t nearer to the horizon. What is left here is to hand the callees' contracts over.
-use Prim.Native.Nat.{_-_}
+-- The plan meets its contract. The loop's invariant: the tables hold the plan at moment t, and one has the open pieces;
+-- a turn brings t nearer to the horizon. What is left here is to hand the callees' contracts over.
+use Prim.Native.Nat.{ℕ, _-_}
+use mathlib.Core.List.{List}
 use mathlib.Core.Path.{refl}
 use native.Mathlib.Omega.{arith}
 use lib.ListN.{getD-replicate}
 use Rattle.rules.specs.Urgency.{horizon}
 use Rattle.steps.specs.Handover.{Waiting, waiting}
 use Rattle.steps.specs.Log.{Log, log}
+use Rattle.steps.specs.Opening.{Opening}
 use Rattle.steps.specs.Tables.{Tables}
 use Rattle.steps.specs.Work.{Work, work}
 use Rattle.steps.proofs.Tables.{jobOf}
-use Rattle.urgency.proofs.Planned.{Going, few, desks-few, named, before-first, next-ahead, next-within, next-small, goes, planned}
+use Rattle.urgency.proofs.OpenTable.{opening-first}
+use Rattle.urgency.proofs.Planned.{Standing, Going, going, in-time, few, named, after-inside, lookable, before-first, next-ahead, next-within, next-small, goes, opening-then, planned}
 use Rattle.urgency.proofs.plan.Statement.{statement}
 use Rattle.urgency.proofs.plan.Tie as tie
 
 abbrev Inv-loop : tie.InvT-loop
 Inv-loop n m desks durations releases dues befores afters handovers latests start₀ finish₀ piece₀ from₀ until₀ left₀
-    waits₀ ready₀ tail prior chosen₀ last₀ runs₀ t₀ next₀ start finish piece from until left waits ready chosen last runs
-    t next =
+    waits₀ ready₀ tail prior table₀ chosen₀ busy₀ last₀ opened₀ runs₀ t₀ start finish piece from until left waits ready
+    table chosen busy last opened runs t =
     let T : Tables = record {
       pieces = n;
       links = m;
@@ -29,12 +32,12 @@ Inv-loop n m desks durations releases dues befores afters handovers latests star
       handovers = handovers;
       latests = latests;
     } in
-    Going T dues t next (work left start finish) (waiting waits ready) (log runs last piece from until) chosen
+    Standing T dues t opened (work left start finish) (waiting waits ready) (log runs last piece from until) table busy
 
 abbrev μ-loop : tie.MeasureT-loop
 μ-loop n m desks durations releases dues befores afters handovers latests start₀ finish₀ piece₀ from₀ until₀ left₀
-    waits₀ ready₀ tail prior chosen₀ last₀ runs₀ t₀ next₀ start finish piece from until left waits ready chosen last runs
-    t next =
+    waits₀ ready₀ tail prior table₀ chosen₀ busy₀ last₀ opened₀ runs₀ t₀ start finish piece from until left waits ready
+    table chosen busy last opened runs t =
     let T : Tables = record {
       pieces = n;
       links = m;
@@ -71,11 +74,16 @@ begin-requires c κs =
       (refl, refl, s .pre .1 .starts-sized, s .pre .1 .finishes-sized),
     )
 
-count-requires : tie.Need-count-requires Inv-loop μ-loop
-count-requires c κs =
+count-into-requires : tie.Need-count-into-requires Inv-loop μ-loop
+count-into-requires c κs =
     let s = c .before .before .before .before .before .before in
     let k = named (lent s) (s .args .dues .now) (s .pre .0) in
-    ((k .few, k .after-one), (refl, λ i h. getD-replicate 256 i 0 0 h))
+    record {
+      few = k .few;
+      small = k .after-one;
+      sized = refl;
+      cleared = λ i h. getD-replicate 256 i 0 0 h;
+    }
 
 chain-links-requires : tie.Need-chain-links-requires Inv-loop μ-loop
 chain-links-requires c κs =
@@ -89,121 +97,175 @@ chain-links-requires c κs =
       cleared = λ i h. getD-replicate 256 i 0 0 h;
     }
 
--- The way back from the first decision to the chains, and from there to the entry.
-abbrev chains : tie.After-chosen Inv-loop μ-loop → tie.After-chain-links Inv-loop μ-loop
-chains c = c .before .before .before .before
+place-free-requires : tie.Need-place-free-requires Inv-loop μ-loop
+place-free-requires c κs =
+    let counted = c .before .before .before .before .before in
+    let s = counted .before .before .before .before .before .before .before in
+    (few (lent s) (s .args .dues .now) (s .pre .0), counted .count-into .ensures .sized, refl)
 
-abbrev entry : tie.After-chain-links Inv-loop μ-loop → tie.Start Inv-loop μ-loop
-entry c = c .before .before .before .before .before .before .before .before .before .before
+-- The way back from a turn's beginning to the table's first pieces, and from there to the links counted and to the entry.
+abbrev counted : tie.After-place-free Inv-loop μ-loop → tie.After-count-into Inv-loop μ-loop
+counted c = c .before .before .before .before .before .before
 
-decide-requires : tie.Need-decide-requires Inv-loop μ-loop
-decide-requires c κs =
-    let s = entry (chains c) in
-    (few (lent s) (s .args .dues .now) (s .pre .0), desks-few (lent s) (s .args .dues .now) (s .pre .0))
+abbrev entry : tie.After-place-free Inv-loop μ-loop → tie.Start Inv-loop μ-loop
+entry c = c .before .before .before .before .before .before .before .before .before .before .before .before .before
 
 loop-holds : tie.Need-loop-holds Inv-loop μ-loop
 loop-holds c =
-    let k = chains (c .before) in
-    let s = entry k in
-    let counted = k .before .before .before in
+    let k = counted c in
+    let s = entry c in
     record {
       held = before-first (lent s) (s .args .dues .now) (s .pre .0) _ _ _ _ _ _ _ _ _
-          (counted .before .before .begin .ensures)
-          (counted .count .ensures .0) (counted .count .ensures .1) refl (λ d h. getD-replicate 32 d 512 0 h)
+          (k .before .before .begin .ensures)
+          (k .count-into .ensures .sized) (k .count-into .ensures .counts) refl
+          (λ d h. getD-replicate 32 d 512 0 h)
           (s .pre .1 .pieces-sized) (s .pre .1 .froms-sized) (s .pre .1 .untils-sized);
-      decided = c .decide .ensures;
+      opening = opening-first _ _ _ _ _ (c .place-free .ensures);
+      busy-sized = refl;
     }
 
+decide-requires : tie.Need-decide-requires Inv-loop μ-loop
+decide-requires c κs =
+    let s = entry (c .before .before .before .before .before .before) in
+    let l = c .before .before .before .before .before .loop in (
+      lookable (lent s) (s .args .dues .now) (s .pre .0) (l .opened) (l .table) (l .left) (l .waits) (l .inv .opening),
+      (l .inv .busy-sized, in-time (lent s) (s .args .dues .now) (s .pre .0) (l .t) _ _ _ (l .inv .held)),
+    )
+
+-- What the loop has at a turn's beginning.
+abbrev turn : tie.After-decide Inv-loop μ-loop → tie.At-loop Inv-loop μ-loop
+turn c = c .before .before .before .before .before .before
+
+abbrev first : tie.After-decide Inv-loop μ-loop → tie.Start Inv-loop μ-loop
+first c = entry (turn c .before)
+
+abbrev works : tie.After-decide Inv-loop μ-loop → Work
+works c = let l = turn c .loop in work (l .left) (l .start) (l .finish)
+
+abbrev waits : tie.After-decide Inv-loop μ-loop → Waiting
+waits c = let l = turn c .loop in waiting (l .waits) (l .ready)
+
+abbrev logs : tie.After-decide Inv-loop μ-loop → Log
+logs c = let l = turn c .loop in log (l .runs) (l .last) (l .piece) (l .from) (l .until)
+
+-- And what the decision leaves in the tables.
+abbrev table : tie.After-decide Inv-loop μ-loop → List ℕ
+table c = c .decide .last .1 .1 .1 .1 .1 .1 .0
+
+abbrev chosen : tie.After-decide Inv-loop μ-loop → List ℕ
+chosen c = c .decide .last .1 .1 .1 .1 .1 .1 .1 .0
+
+abbrev busy : tie.After-decide Inv-loop μ-loop → List ℕ
+busy c = c .decide .last .1 .1 .1 .1 .1 .1 .1 .1 .0
+
+decided : (c : tie.After-decide Inv-loop μ-loop) →
+    let r = c .decide .result in
+    Going (lent (first c)) (first c .args .dues .now) (turn c .loop .t) (r .opened) (r .count) (r .next) (works c) (waits c)
+    (logs c) (table c) (chosen c) (busy c)
+decided c =
+    let s = first c in
+    let l = turn c .loop in
+    let r = c .decide .result in
+    going (lent s) (s .args .dues .now) (s .pre .0) (l .t) (l .opened) (r .opened) (r .count) (r .next) (works c) (waits c)
+    (logs c) (l .table) (table c) (chosen c) (l .busy) (busy c) (l .inv) (c .decide .ensures .0) (c .decide .ensures .1)
+
+returns : tie.Need-returns Inv-loop μ-loop
+returns c =
+    let d = c .before .before in
+    let s = first d in
+    let r = d .decide .result in
+    planned (lent s) (s .args .dues .now) (s .pre .0) (turn d .loop .t) (r .opened) (r .count) (r .next) (works d) (waits d)
+    (logs d) (table d) (chosen d) (busy d) (decided d) (c .if1 .taken)
+
 work-all-requires : tie.Need-work-all-requires Inv-loop μ-loop
-work-all-requires c κs = tt
+work-all-requires c κs = decided (c .before .before .before .before .before .before .before) .decided .looked-at .working
 
 note-all-requires : tie.Need-note-all-requires Inv-loop μ-loop
-note-all-requires c κs = tt
+note-all-requires c κs = decided (c .before .before .before .before .before .before .before .before .before .before .before .before .before .before) .decided .looked-at .working
 
--- The way back from a turn to the entry, and what the loop has at the turn's beginning.
-abbrev first : tie.In-loop Inv-loop μ-loop → tie.Start Inv-loop μ-loop
-first c = entry (chains (c .before .before .before))
+-- The way back from the last places of a turn.
+abbrev noted : tie.After-hand-all Inv-loop μ-loop → tie.After-note-all Inv-loop μ-loop
+noted c = c .before .before .before .before .before .before .before .before .before
 
-abbrev works : tie.In-loop Inv-loop μ-loop → Work
-works c = let l = c .before .loop in work (l .left) (l .start) (l .finish)
-
-abbrev waits : tie.In-loop Inv-loop μ-loop → Waiting
-waits c = let l = c .before .loop in waiting (l .waits) (l .ready)
-
-abbrev logs : tie.In-loop Inv-loop μ-loop → Log
-logs c = let l = c .before .loop in log (l .runs) (l .last) (l .piece) (l .from) (l .until)
-
--- The way back from the last places of a turn to its beginning.
 abbrev worked : tie.After-note-all Inv-loop μ-loop → tie.After-work-all Inv-loop μ-loop
-worked c = c .before .before .before .before .before .before
+worked c = c .before .before .before .before .before .before .before
 
-abbrev turn : tie.After-work-all Inv-loop μ-loop → tie.In-loop Inv-loop μ-loop
-turn c = c .before .before .before .before .before
+abbrev goes-on : tie.After-work-all Inv-loop μ-loop → tie.Else1 Inv-loop μ-loop
+goes-on c = c .before .before .before .before .before .before
+
+abbrev at-decision : tie.After-work-all Inv-loop μ-loop → tie.After-decide Inv-loop μ-loop
+at-decision c = goes-on c .before .before
+
+-- The table still has the open pieces when the slots are worked.
+open-then : (c : tie.After-work-all Inv-loop μ-loop) →
+    let d = at-decision c in
+    Opening (first d .args .n) (d .decide .result .opened) (table d) (c .work-all .last .1 .1 .1 .1 .1 .1 .0) (turn d .loop .waits)
+open-then c =
+    let d = at-decision c in
+    let s = first d in
+    let r = d .decide .result in
+    opening-then (lent s) (s .args .dues .now) (s .pre .0) (turn d .loop .t) (r .opened) (r .count) (r .next) (works d)
+    (waits d) (logs d) (table d) (chosen d) (busy d) (decided d) (goes-on c .if1 .left) _ (c .work-all .ensures)
 
 hand-all-requires : tie.Need-hand-all-requires Inv-loop μ-loop
 hand-all-requires c κs =
-    let b = turn (worked (c .before .before .before .before .before .before)) in
-    let s = first b in
-    let l = b .before .loop in (
+    let w = worked (c .before .before .before .before .before .before .before .before) in
+    let d = at-decision w in
+    let s = first d in
+    let r = d .decide .result in (
       named (lent s) (s .args .dues .now) (s .pre .0),
       (
-        chains (b .before .before .before) .chain-links .ensures,
-        omega (
-          arith,
-          next-small (lent s) (s .args .dues .now) (s .pre .0) (l .t) (l .next) (works b) (waits b) (logs b) (l .chosen)
-              (l .inv) (b .loop-test .taken),
+        turn d .before .before .before .before .chain-links .ensures,
+        (
+          (
+            omega (
+              arith,
+              next-small (lent s) (s .args .dues .now) (s .pre .0) (turn d .loop .t) (r .opened) (r .count) (r .next)
+                  (works d) (waits d) (logs d) (table d) (chosen d) (busy d) (decided d) (goes-on w .if1 .left),
+            ),
+            decided d .decided .looked-at .working,
+          ),
+          record {
+            pieces = s .args .n;
+            left = w .work-all .last .1 .1 .1 .1 .1 .1 .0;
+            few = few (lent s) (s .args .dues .now) (s .pre .0);
+            after-one = after-inside (lent s) (s .args .dues .now) (s .pre .0);
+            opening = open-then w;
+          },
         ),
       ),
     )
 
--- From the second decision of a turn to its last call before that, and on to the log.
-abbrev noted : tie.After-hand-all Inv-loop μ-loop → tie.After-note-all Inv-loop μ-loop
-noted c = c .before .before .before .before .before .before .before
-
-abbrev handed : tie.After-decide2 Inv-loop μ-loop → tie.After-hand-all Inv-loop μ-loop
-handed c = c .before .before .before .before .before
-
-decide-requires-2 : tie.Need-decide-requires-2 Inv-loop μ-loop
-decide-requires-2 c κs =
-    let s = first (turn (worked (noted (c .before .before .before .before)))) in
-    (few (lent s) (s .args .dues .now) (s .pre .0), desks-few (lent s) (s .args .dues .now) (s .pre .0))
-
 loop-less : tie.Need-loop-less Inv-loop μ-loop
 loop-less c =
-    let b = turn (worked (noted (handed c))) in
-    let s = first b in
-    let l = b .before .loop in
+    let w = worked (noted c) in
+    let d = at-decision w in
+    let s = first d in
+    let r = d .decide .result in
     omega (
       arith,
-      next-ahead (lent s) (s .args .dues .now) (s .pre .0) (l .t) (l .next) (works b) (waits b) (logs b) (l .chosen)
-          (l .inv),
-      next-within (lent s) (s .args .dues .now) (s .pre .0) (l .t) (l .next) (works b) (waits b) (logs b) (l .chosen)
-          (l .inv)
-          (b .loop-test .taken),
+      next-ahead (lent s) (s .args .dues .now) (s .pre .0) (turn d .loop .t) (r .opened) (r .count) (r .next) (works d)
+          (waits d) (logs d) (table d) (chosen d) (busy d) (decided d),
+      next-within (lent s) (s .args .dues .now) (s .pre .0) (turn d .loop .t) (r .opened) (r .count) (r .next) (works d)
+          (waits d) (logs d) (table d) (chosen d) (busy d) (decided d) (goes-on w .if1 .left),
     )
 
 loop-again : tie.Need-loop-again Inv-loop μ-loop
 loop-again c =
-    let h = handed c in
-    let n = noted h in
+    let n = noted c in
     let w = worked n in
-    let b = turn w in
-    let s = first b in
-    let l = b .before .loop in
+    let d = at-decision w in
+    let s = first d in
+    let r = d .decide .result in
     record {
-      held = goes (lent s) (s .args .dues .now) (s .pre .0) (l .t) (l .next) (works b) (waits b) (logs b) (l .chosen)
-          (l .inv)
-          (b .loop-test .taken) _ _ _ (w .work-all .ensures) (n .note-all .ensures) (h .hand-all .ensures);
-      decided = c .decide2 .ensures;
+      held = goes (lent s) (s .args .dues .now) (s .pre .0) (turn d .loop .t) (r .opened) (r .count) (r .next) (works d)
+          (waits d) (logs d) (table d) (chosen d) (busy d) (decided d) (goes-on w .if1 .left) _ (w .work-all .ensures) _ _
+          (n .note-all .ensures) (c .hand-all .ensures .0);
+      opening = c .hand-all .ensures .1 (s .args .n) (w .work-all .last .1 .1 .1 .1 .1 .1 .0)
+          (few (lent s) (s .args .dues .now) (s .pre .0)) (after-inside (lent s) (s .args .dues .now) (s .pre .0))
+          (open-then w);
+      busy-sized = decided d .decided .looked-at .working .busy-sized;
     }
-
-returns : tie.Need-returns Inv-loop μ-loop
-returns c =
-    let s = entry (chains (c .before .before .before)) in
-    let l = c .before .loop in
-    planned (lent s) (s .args .dues .now) (s .pre .0) (l .t) (l .next) (work (l .left) (l .start) (l .finish))
-    (waiting (l .waits) (l .ready)) (log (l .runs) (l .last) (l .piece) (l .from) (l .until)) (l .chosen) (l .inv)
-    (c .loop-test .left)
 
 pub plan-spec : {M : Type 1} → statement M
 plan-spec =
@@ -212,14 +274,14 @@ plan-spec =
     Inv-loop
     μ-loop
     begin-requires
-    count-requires
+    count-into-requires
     chain-links-requires
-    decide-requires
+    place-free-requires
     loop-holds
+    decide-requires
+    returns
     work-all-requires
     note-all-requires
     hand-all-requires
-    decide-requires-2
     loop-less
-    loop-again
-    returns)
+    loop-again)

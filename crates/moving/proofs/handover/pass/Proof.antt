@@ -1,9 +1,52 @@
--- `pass` stores what one link lets go: one wait less, and the greater of two ready moments.
-use Rattle.steps.specs.Handover.{ties, waiting}
-use Rattle.moving.proofs.Passed.{passed-on, delay-is}
+-- `pass` stores what one link lets go: one wait less, and the greater of two ready moments; and where it was the last
+-- wait, the piece behind the open ones.
+use Prim.Native.Nat.{_<_}
+use mathlib.Core.Path.{_≡_, sym, ap, _∙_}
+use native.Mathlib.Omega.{arith}
 use borrow.Author.Needs.{needs}
+use lib.ListN.{getD, set}
+use Rattle.steps.specs.Handover.{ties, waiting, passed}
+use Rattle.moving.proofs.Passed.{passed-on, delay-is}
+use Rattle.moving.proofs.Opened.{waits-on, opens, place-left}
 use Rattle.moving.proofs.handover.pass.Statement.{statement}
 use Rattle.moving.proofs.handover.pass.Tie as tie
+
+-- The piece after the link is one of the tables'.
+after-in : (s : tie.Start) → getD (s .args .afters .now) (s .args .k) 0 < 256
+after-in s = omega (arith, s .pre .1 .after-one (s .args .k) (omega arith), s .pre .1 .few)
+
+-- The way back to the entry.
+abbrev entry : tie.After-greater → tie.Start
+entry c = c .before .before .before .before .before .before .before .before .before .before .before
+
+-- What the tables of waits and ready moments are.
+tables : (c : tie.After-greater) →
+    let a = entry c .args in
+    let x = getD (a .afters .now) (a .k) 0 in
+    waiting (set (a .waits .now) x (c .before .before .before .before .before .before .before .one-less .result))
+    (set (a .ready .now) x (c .greater .result))
+    ≡ passed (ties (a .desks .now) (a .befores .now) (a .afters .now) (a .handovers .now)) (a .c) (a .k)
+    (waiting (a .waits .now) (a .ready .now))
+tables c =
+    let a = entry c .args in
+    let l = ties (a .desks .now) (a .befores .now) (a .afters .now) (a .handovers .now) in
+    let w = c .before .before .wide in
+    let d = c .before .delay in
+    let o = c .before .before .before .before .before .before .before .one-less in
+    passed-on l (a .c) (a .k) (o .result) (c .greater .result) (d .result) (waiting (a .waits .now) (a .ready .now))
+    (o .ensures) (delay-is l (a .k) (w .result) (d .result) (w .ensures .0) (d .ensures .0)) (c .greater .ensures)
+
+-- There is a place behind the open pieces for one that waited for this link last.
+place-in : (c : tie.Then1) → entry (c .before) .args .opened < 256
+place-in c =
+    let s = entry (c .before) in
+    let r = s .pre .1 in
+    omega (
+      arith,
+      r .few,
+      place-left (r .pieces) (s .args .opened) (getD (s .args .afters .now) (s .args .k) 0) (s .args .table .now) (r .left)
+          (s .args .waits .now) (r .opening) (r .few) (r .after-one (s .args .k) (omega arith)) (c .if1 .taken),
+    )
 
 mul-b : tie.Need-mul-b
 mul-b c = search needs
@@ -21,34 +64,34 @@ element-copy-out-a : tie.Need-element-copy-out-a
 element-copy-out-a c = search needs
 
 cast-a : tie.Need-cast-a
-cast-a c = search needs
+cast-a c = omega (arith, after-in (c .before .before))
 
-mul-less : tie.Need-mul-less
-mul-less c = search needs
+mul-w : tie.Need-mul-w
+mul-w c = omega (arith, after-in (c .before .before))
 
-element-copy-out-less : tie.Need-element-copy-out-less
-element-copy-out-less c = search needs
+element-copy-out-w : tie.Need-element-copy-out-w
+element-copy-out-w c = after-in (c .before .before)
 
-less-requires : tie.Need-less-requires
-less-requires c κs = search needs
+one-less-requires : tie.Need-one-less-requires
+one-less-requires c κs = search needs
 
 mul-waits : tie.Need-mul-waits
-mul-waits c = search needs
+mul-waits c = omega (arith, after-in (c .before .before .before .before))
 
 element-write-waits : tie.Need-element-write-waits
-element-write-waits c = search needs
+element-write-waits c = after-in (c .before .before .before .before)
 
 mul-greater : tie.Need-mul-greater
-mul-greater c = search needs
+mul-greater c = omega (arith, after-in (c .before .before .before .before))
 
 element-copy-out-greater : tie.Need-element-copy-out-greater
-element-copy-out-greater c = search needs
+element-copy-out-greater c = after-in (c .before .before .before .before)
 
 element-copy-out-delay : tie.Need-element-copy-out-delay
 element-copy-out-delay c = search needs
 
 element-copy-out-delay-2 : tie.Need-element-copy-out-delay-2
-element-copy-out-delay-2 c = search needs
+element-copy-out-delay-2 c = after-in (c .before .before .before .before .before .before)
 
 mul-wide : tie.Need-mul-wide
 mul-wide c = search needs
@@ -69,20 +112,44 @@ greater-requires : tie.Need-greater-requires
 greater-requires c κs = search needs
 
 mul-ready : tie.Need-mul-ready
-mul-ready c = search needs
+mul-ready c = omega (arith, after-in (entry c))
 
 element-write-ready : tie.Need-element-write-ready
-element-write-ready c = search needs
+element-write-ready c = after-in (entry c)
+
+cast-table : tie.Need-cast-table
+cast-table c = omega (arith, after-in (entry (c .before)))
+
+mul-table : tie.Need-mul-table
+mul-table c = omega (arith, place-in c)
+
+element-write-table : tie.Need-element-write-table
+element-write-table c = place-in c
+
+add-result : tie.Need-add-result
+add-result c = omega (arith, place-in c)
 
 returns : tie.Need-returns
 returns c =
-    let a = c .before .before .before .before .before .before .before .before .before .before .before .args in
-    let l = ties (a .desks .now) (a .befores .now) (a .afters .now) (a .handovers .now) in
-    let w = c .before .before .wide in
-    let d = c .before .delay in
-    let o = c .before .before .before .before .before .before .before .less in
-    passed-on l (a .c) (a .k) (o .result) (c .greater .result) (d .result) (waiting (a .waits .now) (a .ready .now))
-    (o .ensures) (delay-is l (a .k) (w .result) (d .result) (w .ensures .0) (d .ensures .0)) (c .greater .ensures)
+    let s = entry (c .before) in
+    let x = getD (s .args .afters .now) (s .args .k) 0 in
+    let o = c .before .before .before .before .before .before .before .before .one-less in (
+      tables (c .before),
+      λ n left few one r. rw (o .ensures)
+          (opens n (s .args .opened) x (s .args .table .now) left (s .args .waits .now) r few
+          (one (s .args .k) (omega arith)) (c .if1 .taken)),
+    )
+
+returns-2 : tie.Need-returns-2
+returns-2 c =
+    let s = entry (c .before) in
+    let x = getD (s .args .afters .now) (s .args .k) 0 in
+    let o = c .before .before .before .before .before .before .before .before .one-less in (
+      tables (c .before),
+      λ n left few one r. rw (o .ensures)
+          (waits-on n (s .args .opened) x (s .args .table .now) left (s .args .waits .now) r few
+          (one (s .args .k) (omega arith)) (c .if1 .left)),
+    )
 
 pub pass-spec : {M : Type 1} → statement M
 pass-spec =
@@ -94,9 +161,9 @@ pass-spec =
     mul-a
     element-copy-out-a
     cast-a
-    mul-less
-    element-copy-out-less
-    less-requires
+    mul-w
+    element-copy-out-w
+    one-less-requires
     mul-waits
     element-write-waits
     mul-greater
@@ -111,4 +178,9 @@ pass-spec =
     greater-requires
     mul-ready
     element-write-ready
-    returns)
+    cast-table
+    mul-table
+    element-write-table
+    add-result
+    returns
+    returns-2)

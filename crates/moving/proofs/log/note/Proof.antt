@@ -1,11 +1,11 @@
 -- `note` makes the desk's last run longer or puts a run behind the others. Each return is one of the ways of the
--- definition: no piece, the run goes on, the log is full, a run begins.
+-- definition: the run goes on, the log is full, a run begins.
 use Prim.Native.Nat.{_<_}
 use mathlib.Core.Path.{sym, _∙_}
 use native.Mathlib.Omega.{arith}
 use lib.ListN.{getD}
 use Rattle.steps.specs.Log.{Log, log}
-use Rattle.moving.proofs.Noted.{stays-inside, nobody-noted, run-longer, log-full, run-begins}
+use Rattle.moving.proofs.Noted.{stays-inside, run-longer, log-full, run-begins}
 use borrow.Author.Needs.{needs}
 use Rattle.moving.proofs.log.note.Statement.{statement}
 use Rattle.moving.proofs.log.note.Tie as tie
@@ -13,10 +13,6 @@ use Rattle.moving.proofs.log.note.Tie as tie
 -- The log as the function finds it.
 abbrev was : tie.Start → Log
 was s = let a = s .args in log (a .runs) (a .last .now) (a .piece .now) (a .from .now) (a .until .now)
-
-returns : tie.Need-returns
-returns c =
-    let a = c .before .args in nobody-noted (a .t) (a .next) (a .d) (a .i) (was (c .before)) (c .if1 .taken)
 
 mul-k : tie.Need-mul-k
 mul-k c = search needs
@@ -29,14 +25,14 @@ goes-on-requires c κs = search needs
 
 -- The way back from the answer of `goes_on` to the entry.
 abbrev entry : tie.After-goes-on → tie.Start
-entry c = c .before .before .before .before .before
+entry c = c .before .before .before .before
 
 -- The run that goes on has a place in the log.
-place-in : (c : tie.Then2) → getD (entry (c .before) .args .last .now) (entry (c .before) .args .d) 0 < 512
+place-in : (c : tie.Then1) → getD (entry (c .before) .args .last .now) (entry (c .before) .args .d) 0 < 512
 place-in c =
     let a = entry (c .before) .args in
     stays-inside (a .piece .now) (a .until .now) (getD (a .last .now) (a .d) 0) (a .i) (a .t)
-    (sym (c .before .goes-on .ensures) ∙ c .if2 .taken)
+    (sym (c .before .goes-on .ensures) ∙ c .if1 .taken)
 
 mul-until : tie.Need-mul-until
 mul-until c = omega (arith, place-in c)
@@ -44,19 +40,19 @@ mul-until c = omega (arith, place-in c)
 element-write-until : tie.Need-element-write-until
 element-write-until c = place-in c
 
-returns-2 : tie.Need-returns-2
-returns-2 c =
+returns : tie.Need-returns
+returns c =
     let g = c .before in
     let a = entry g .args in
-    run-longer (a .t) (a .next) (a .d) (a .i) (was (entry g)) (g .before .before .before .before .if1 .left)
-    (sym (g .goes-on .ensures) ∙ c .if2 .taken)
+    run-longer (a .t) (a .next) (a .d) (a .i) (was (entry g))
+    (sym (g .goes-on .ensures) ∙ c .if1 .taken)
 
-returns-3 : tie.Need-returns-3
-returns-3 c =
+returns-2 : tie.Need-returns-2
+returns-2 c =
     let g = c .before .before in
     let a = entry g .args in
-    log-full (a .t) (a .next) (a .d) (a .i) (was (entry g)) (g .before .before .before .before .if1 .left)
-    (sym (g .goes-on .ensures) ∙ c .before .if2 .left) (c .if3 .taken)
+    log-full (a .t) (a .next) (a .d) (a .i) (was (entry g))
+    (sym (g .goes-on .ensures) ∙ c .before .if1 .left) (c .if2 .taken)
 
 cast-piece : tie.Need-cast-piece
 cast-piece c = search needs
@@ -88,25 +84,24 @@ element-write-last c = search needs
 add-result : tie.Need-add-result
 add-result c = search needs
 
-returns-4 : tie.Need-returns-4
-returns-4 c =
+returns-3 : tie.Need-returns-3
+returns-3 c =
     let g = c .before .before in
     let a = entry g .args in
-    run-begins (a .t) (a .next) (a .d) (a .i) (was (entry g)) (g .before .before .before .before .if1 .left)
-    (sym (g .goes-on .ensures) ∙ c .before .if2 .left) (c .if3 .left)
+    run-begins (a .t) (a .next) (a .d) (a .i) (was (entry g))
+    (sym (g .goes-on .ensures) ∙ c .before .if1 .left) (c .if2 .left)
 
 pub note-spec : {M : Type 1} → statement M
 note-spec =
     tie.close
     (tie.spec
-    returns
     mul-k
     element-copy-out-k
     goes-on-requires
     mul-until
     element-write-until
+    returns
     returns-2
-    returns-3
     cast-piece
     mul-piece
     element-write-piece
@@ -117,4 +112,4 @@ note-spec =
     mul-last
     element-write-last
     add-result
-    returns-4)
+    returns-3)

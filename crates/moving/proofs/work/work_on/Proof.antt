@@ -1,21 +1,15 @@
--- `work_on` stores start, slots left and finish of one piece, or nothing where there is no piece.
-use Rattle.steps.specs.Work.{work}
-use Rattle.moving.proofs.Worked.{nobody-works, works-on}
+-- `work_on` stores start, slots left and finish of one piece.
 use borrow.Author.Needs.{needs}
+use Rattle.steps.specs.Work.{work}
+use Rattle.moving.proofs.Worked.{works-on}
 use Rattle.moving.proofs.work.work_on.Statement.{statement}
 use Rattle.moving.proofs.work.work_on.Tie as tie
 
-returns : tie.Need-returns
-returns c =
-    let a = c .before .args in
-    nobody-works (a .durations .now) (a .t) (a .next) (a .i) (work (a .left .now) (a .start .now) (a .finish .now))
-    (c .if1 .taken)
+mul-starts : tie.Need-mul-starts
+mul-starts c = search needs
 
-mul-start-of : tie.Need-mul-start-of
-mul-start-of c = search needs
-
-element-copy-out-start-of : tie.Need-element-copy-out-start-of
-element-copy-out-start-of c = search needs
+element-copy-out-starts : tie.Need-element-copy-out-starts
+element-copy-out-starts c = search needs
 
 mul-wide : tie.Need-mul-wide
 mul-wide c = search needs
@@ -26,20 +20,8 @@ element-copy-out-wide c = search needs
 wide-requires : tie.Need-wide-requires
 wide-requires c κs = search needs
 
-mul-start-of-2 : tie.Need-mul-start-of-2
-mul-start-of-2 c = search needs
-
-element-copy-out-start-of-2 : tie.Need-element-copy-out-start-of-2
-element-copy-out-start-of-2 c = search needs
-
-start-of-requires : tie.Need-start-of-requires
-start-of-requires c κs = search needs
-
-mul-start : tie.Need-mul-start
-mul-start c = search needs
-
-element-write-start : tie.Need-element-write-start
-element-write-start c = search needs
+starts-requires : tie.Need-starts-requires
+starts-requires c κs = search needs
 
 mul-less : tie.Need-mul-less
 mul-less c = search needs
@@ -65,31 +47,25 @@ mul-finish c = search needs
 element-write-finish : tie.Need-element-write-finish
 element-write-finish c = search needs
 
-returns-2 : tie.Need-returns-2
-returns-2 c =
-    let a = c .before .before .before .before .before .before .before .before .before .args in
-    works-on (a .durations .now) (a .t) (a .next) (a .i) (c .before .before .before .before .before .wide .result)
-    (c .before .less .result) (c .less2 .result)
-    (c .before .before .before .start-of .result) (work (a .left .now) (a .start .now) (a .finish .now))
-    (c .before .before .before .before .before .before .before .before .if1 .left)
-    (c .before .before .before .before .before .wide .ensures .0) (c .before .before .before .start-of .ensures)
-    (c .before .less .ensures) (c .less2 .ensures)
+returns : tie.Need-returns
+returns c =
+    let o = c .before .before .before .starts in
+    let w = c .before .before .before .before .before .wide in
+    let a = c .before .before .before .before .before .before .before .before .args in
+    works-on (a .durations .now) (a .t) (a .next) (a .i) (w .result) (c .before .less .result) (c .less2 .result) _
+    (work (a .left .now) (a .start .now) (a .finish .now)) (w .ensures .0) (o .ensures) (c .before .less .ensures)
+    (c .less2 .ensures)
 
 pub work-on-spec : {M : Type 1} → statement M
 work-on-spec =
     tie.close
     (tie.spec
-    returns
-    mul-start-of
-    element-copy-out-start-of
+    mul-starts
+    element-copy-out-starts
     mul-wide
     element-copy-out-wide
     wide-requires
-    mul-start-of-2
-    element-copy-out-start-of-2
-    start-of-requires
-    mul-start
-    element-write-start
+    starts-requires
     mul-less
     element-copy-out-less
     less-requires
@@ -98,4 +74,4 @@ work-on-spec =
     element-write-left
     mul-finish
     element-write-finish
-    returns-2)
+    returns)
