@@ -44,12 +44,6 @@ module _ (desks pieces froms untils : List ℕ) (d : ℕ) where
     pub bytes : buf ≡ sets b at (deskRunsIn k desks pieces froms untils d)
     pub past : next ≡ at + length (deskRunsIn k desks pieces froms untils d)
 
-  -- There is room for the run at place k, if it is the desk's.
-  pub record RunFits (k next : ℕ) (buf : List ℕ) : Type 0 where
-    pub place : k < 512
-    pub known : getD pieces k 0 < 256
-    pub room : eqb (getD desks (getD pieces k 0) 0) d ≡ true → next + 16 ≤ length buf
-
 -- The records of the first n desks stand in the buffer, which was b, from `at` on.
 module _ (count : ℕ) (desks pieces froms untils : List ℕ) where
   pub record AllLogged (b : List ℕ) (at n : ℕ) (buf : List ℕ) (next : ℕ) : Type 0 where
