@@ -1,8 +1,7 @@
--- One judgement after another: the first fault decides, and there is none where no judgement finds one.
+-- One judgement after another: the first fault decides.
 use Prim.Native.Nat.{ℕ, zero, suc}
 use mathlib.Core.List.{List}
 use mathlib.Core.Path.{_≡_, refl, sym, _∙_}
-use native.Mathlib.Omega.{arith}
 use Rattle.rules.specs.File.{Kind}
 use Rattle.rules.specs.Job.{Job}
 use Rattle.rules.specs.Reading.{firstFault, kindFault, orderFault, valueFault, zeroFault, recordFault}
@@ -16,12 +15,6 @@ first-fault (suc n) later h = refl
 later-fault : (n later : ℕ) → n ≡ 0 → firstFault n later ≡ later
 unfolding firstFault
 later-fault n later h = rw h
-
--- Two judgements without a fault: neither has one.
-pub both : (a b : ℕ) → firstFault a b ≡ 0 → (a ≡ 0) × (b ≡ 0)
-unfolding firstFault
-both zero b h = (refl, h)
-both (suc a) b h = absurd (omega arith)
 
 -- The judgement of a record of a known kind: its order, its values or its zero bytes decide, whichever has the first
 -- fault.
