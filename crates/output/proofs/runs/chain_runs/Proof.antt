@@ -1,7 +1,8 @@
 -- `chain_runs` meets its contract: each run is put at the front of its desk's chain, and the other chains stay.
-use Prim.Native.Nat.{_+_, _-_, _≤_}
+use Prim.Native.Nat.{_+_, _-_, _≤_, _<_}
 use mathlib.Core.Path.{_≡_, subst}
 use native.Mathlib.Omega.{arith}
+use lib.ListN.{getD}
 use Rattle.output.specs.Chained.{RunsChained}
 use Rattle.output.proofs.ChainedLaws.{no-run-chained, one-run-chained}
 use borrow.Author.Needs.{needs}
@@ -26,11 +27,16 @@ mul-place-of c = search needs
 element-copy-out-place-of : tie.Need-element-copy-out-place-of Inv-loop μ-loop
 element-copy-out-place-of c = search needs
 
+-- The run is of a piece that there is.
+known : (c : tie.After-place-of-arg Inv-loop μ-loop) →
+    getD (c .before .before .before .args .pieces .now) (c .before .before .loop .k - 1) 0 < 256
+known c = c .before .before .before .pre .0 .known (c .before .before .loop .k - 1) (omega arith)
+
 cast-place-of : tie.Need-cast-place-of Inv-loop μ-loop
-cast-place-of c = omega (arith, c .before .before .before .pre .0 .known (c .before .before .loop .k - 1) (omega arith))
+cast-place-of c = omega (arith, known c)
 
 element-copy-out-place-of-2 : tie.Need-element-copy-out-place-of-2 Inv-loop μ-loop
-element-copy-out-place-of-2 c = omega (arith, c .before .before .before .pre .0 .known (c .before .before .loop .k - 1) (omega arith))
+element-copy-out-place-of-2 c = known c
 
 place-of-requires : tie.Need-place-of-requires Inv-loop μ-loop
 place-of-requires c κs = search needs

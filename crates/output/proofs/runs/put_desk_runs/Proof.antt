@@ -1,5 +1,5 @@
 -- `put_desk_runs` meets its contract: along the desk's chain, each record right behind the ones before.
-use Prim.Native.Nat.{_+_, _-_}
+use Prim.Native.Nat.{_+_, _-_, _<_}
 use mathlib.Core.Path.{_≡_, ap, _∙_}
 use native.Mathlib.Omega.{arith}
 use lib.ListN.{getD}
@@ -61,32 +61,36 @@ here c =
     along-here (a .count) (a .desks .now) (a .pieces .now) (a .froms .now) (a .untils .now) (a .desk) (a .buffer .now)
     (a .at) (L .buffer) (L .next) (L .run) (L .run - 1) (L .inv) (omega arith)
 
+-- The run's place is within the log.
+within : (c : tie.In-loop Inv-loop μ-loop) → c .before .loop .run - 1 < 512
+within c = omega (arith, here c .place, c .before .before .before .before .before .pre .0 .0 .few)
+
 sub-k : tie.Need-sub-k Inv-loop μ-loop
 sub-k c = omega arith
 
 mul-put-record : tie.Need-mul-put-record Inv-loop μ-loop
-mul-put-record c = omega (arith, here (c .before) .place, c .before .before .before .before .before .before .pre .0 .0 .few)
+mul-put-record c = omega (arith, within (c .before))
 
 element-copy-out-put-record : tie.Need-element-copy-out-put-record Inv-loop μ-loop
-element-copy-out-put-record c = omega (arith, here (c .before) .place, c .before .before .before .before .before .before .pre .0 .0 .few)
+element-copy-out-put-record c = omega (arith, within (c .before))
 
 mul-put-record-2 : tie.Need-mul-put-record-2 Inv-loop μ-loop
-mul-put-record-2 c = omega (arith, here (c .before .before) .place, c .before .before .before .before .before .before .before .pre .0 .0 .few)
+mul-put-record-2 c = omega (arith, within (c .before .before))
 
 element-copy-out-put-record-2 : tie.Need-element-copy-out-put-record-2 Inv-loop μ-loop
-element-copy-out-put-record-2 c = omega (arith, here (c .before .before) .place, c .before .before .before .before .before .before .before .pre .0 .0 .few)
+element-copy-out-put-record-2 c = omega (arith, within (c .before .before))
 
 mul-put-record-3 : tie.Need-mul-put-record-3 Inv-loop μ-loop
-mul-put-record-3 c = omega (arith, here (c .before .before .before) .place, c .before .before .before .before .before .before .before .before .pre .0 .0 .few)
+mul-put-record-3 c = omega (arith, within (c .before .before .before))
 
 element-copy-out-put-record-3 : tie.Need-element-copy-out-put-record-3 Inv-loop μ-loop
-element-copy-out-put-record-3 c = omega (arith, here (c .before .before .before) .place, c .before .before .before .before .before .before .before .before .pre .0 .0 .few)
+element-copy-out-put-record-3 c = omega (arith, within (c .before .before .before))
 
 put-record-requires : tie.Need-put-record-requires Inv-loop μ-loop
 put-record-requires c κs =
-    let start = c .before .before .before .before .before .before .before .before .before in
-    let at = here (c .before .before .before .before) in
-    omega (arith, at .room, at .logged .same, start .pre .1)
+    let inside = c .before .before .before .before in
+    let at = here inside in
+    omega (arith, at .room, at .logged .same, inside .before .before .before .before .before .pre .1)
 
 add-next : tie.Need-add-next Inv-loop μ-loop
 add-next c =
@@ -95,42 +99,45 @@ add-next c =
     omega (arith, at .room, start .pre .1)
 
 mul-run-2 : tie.Need-mul-run-2 Inv-loop μ-loop
-mul-run-2 c = omega (arith, here (c .before .before .before .before .before .before .before) .place, c .before .before .before .before .before .before .before .before .before .before .before .before .pre .0 .0 .few)
+mul-run-2 c = omega (arith, within (c .before .before .before .before .before .before .before))
 
 element-copy-out-run-2 : tie.Need-element-copy-out-run-2 Inv-loop μ-loop
-element-copy-out-run-2 c = omega (arith, here (c .before .before .before .before .before .before .before) .place, c .before .before .before .before .before .before .before .before .before .before .before .before .pre .0 .0 .few)
+element-copy-out-run-2 c = omega (arith, within (c .before .before .before .before .before .before .before))
 
 cast-run-2 : tie.Need-cast-run-2 Inv-loop μ-loop
 cast-run-2 c =
-    let start = c .before .before .before .before .before .before .before .before .before .before .before .before .before in
+    let inside = c .before .before .before .before .before .before .before .before in
+    let L = inside .before .loop in
+    let start = inside .before .before .before .before .before in
     let a = start .args in
-    let k = c .before .before .before .before .before .before .before .before .before .loop .run - 1 in
-    let at = here (c .before .before .before .before .before .before .before .before) in
+    let k = L .run - 1 in
+    let desk = getD (a .desks .now) (getD (a .pieces .now) k 0) 0 in
     omega (
       arith,
-      start .pre .0 .1 .goes-on k (omega arith) (at .place),
-      next-most (a .desks .now) (a .pieces .now) (getD (a .desks .now) (getD (a .pieces .now) k 0) 0) (a .count - (k + 1))
-          (k + 1),
+      start .pre .0 .1 .goes-on k (omega arith) (here inside .place),
+      next-most (a .desks .now) (a .pieces .now) desk (a .count - (k + 1)) (k + 1),
       start .pre .0 .0 .few,
-      at .place,
+      here inside .place,
     )
 
 loop-less : tie.Need-loop-less Inv-loop μ-loop
 loop-less c =
-    let start = c .before .before .before .before .before .before .before .before .before .before .before .before .before in
+    let inside = c .before .before .before .before .before .before .before .before in
+    let L = inside .before .loop in
+    let start = inside .before .before .before .before .before in
     let a = start .args in
-    let L = c .before .before .before .before .before .before .before .before .before .loop in
     along-less (a .count) (a .desks .now) (a .pieces .now) (a .froms .now) (a .untils .now) (a .desk) (a .buffer .now)
-    (a .at) (L .buffer) (L .next) (L .run) (L .run - 1) (a .first .now) (a .later .now) (start .pre .0 .1) (here (c .before .before .before .before .before .before .before .before))
+    (a .at) (L .buffer) (L .next) (L .run) (L .run - 1) (a .first .now) (a .later .now) (start .pre .0 .1) (here inside)
     (omega arith)
 
 loop-again : tie.Need-loop-again Inv-loop μ-loop
 loop-again c =
-    let start = c .before .before .before .before .before .before .before .before .before .before .before .before .before in
+    let inside = c .before .before .before .before .before .before .before .before in
+    let L = inside .before .loop in
+    let start = inside .before .before .before .before .before in
     let a = start .args in
-    let L = c .before .before .before .before .before .before .before .before .before .loop in
     along-on (a .count) (a .desks .now) (a .pieces .now) (a .froms .now) (a .untils .now) (a .desk) (a .buffer .now)
-    (a .at) (L .buffer) (L .next) (L .run - 1) (a .first .now) (a .later .now) _ (start .pre .0 .1) (here (c .before .before .before .before .before .before .before .before))
+    (a .at) (L .buffer) (L .next) (L .run - 1) (a .first .now) (a .later .now) _ (start .pre .0 .1) (here inside)
     (c .before .before .before .put-record .ensures)
 
 same-length : tie.Need-same-length Inv-loop μ-loop
