@@ -1,5 +1,5 @@
--- The run records of one desk written along its chain: what stands in the buffer is what the log holds of the desk before
--- the run that the chain has come to.
+-- The run records of one desk written along its chain: what stands in the buffer is what the log holds of the desk
+-- before the run that the chain has come to.
 use Prim.Native.Nat.{ℕ, _+_, _-_, _≤_, _<_}
 use mathlib.Core.Bool.{true}
 use mathlib.Core.List.{List}
@@ -50,10 +50,10 @@ module _ (count : ℕ) (desks pieces froms untils : List ℕ) (d : ℕ) (b : Lis
         room = omega (arith, run-room desks pieces froms untils d k count here (on .own), on .holds .past);
       }
 
-  pub along-on : (buf : List ℕ) (next k : ℕ) (first later buf′ : List ℕ) → RunsChained desks pieces count 0 first later →
-      Here buf next k →
-      buf′ ≡ sets buf next (planRecord 18 d (getD pieces k 0) (word (getD froms k 0)) (word (getD untils k 0)) (word 0)) →
-      Along buf′ (next + 16) (getD later k 0)
+  pub along-on : (buf : List ℕ) (next k : ℕ) (first later buf′ : List ℕ)
+      → RunsChained desks pieces count 0 first later → Here buf next k
+      → buf′ ≡ sets buf next (planRecord 18 d (getD pieces k 0) (word (getD froms k 0)) (word (getD untils k 0)) (word 0))
+      → Along buf′ (next + 16) (getD later k 0)
   along-on buf next k first later buf′ chained h put = record {
     done = k + 1;
     few = omega (arith, h .place);
@@ -72,8 +72,9 @@ module _ (count : ℕ) (desks pieces froms untils : List ℕ) (d : ℕ) (b : Lis
       (sym (a .onward) ∙ e) (a .logged))
 
   -- What is left of the log falls along the chain.
-  pub along-less : (buf : List ℕ) (next run k : ℕ) (first later : List ℕ) → RunsChained desks pieces count 0 first later →
-      Here buf next k → run ≡ k + 1 → ahead count (getD later k 0) < ahead count run
+  pub along-less : (buf : List ℕ) (next run k : ℕ) (first later : List ℕ)
+      → RunsChained desks pieces count 0 first later → Here buf next k → run ≡ k + 1
+      → ahead count (getD later k 0) < ahead count run
   along-less buf next run k first later chained h e =
       ahead-less desks pieces count (deskAt desks pieces k) (count - (k + 1)) k run (getD later k 0) (h .place) e
       (chained .goes-on k (omega arith) (h .place))

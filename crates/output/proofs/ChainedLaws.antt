@@ -49,7 +49,8 @@ module _ (desks pieces : List ℕ) where
         later-sized = length-set later k (getD first own 0) ∙ h .later-sized;
         begins = λ d l. by-test (eqb own d)
             (λ e. ap (λ x. getD (set first x (k + 1)) d 0) (eqb-true own d e)
-            ∙ getD-set-same first d (k + 1) 0 (omega (arith, h .first-sized)) ∙ sym (some-from d (count - k) k _ one ∙ when-true _ _ _ e))
+            ∙ getD-set-same first d (k + 1) 0 (omega (arith, h .first-sized))
+            ∙ sym (some-from d (count - k) k _ one ∙ when-true _ _ _ e))
             (λ e. getD-set-other first own d (k + 1) 0 (λ q. eqb-false own d e (sym q)) ∙ h .begins d l
             ∙ sym (some-from d (count - k) k _ one ∙ when-false _ _ _ e));
         goes-on = λ j a b. by-test (ltb k j)

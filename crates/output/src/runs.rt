@@ -1,5 +1,5 @@
-// Run records by desk and then by start, behind the result records. The log has the runs in the order in which they begin,
-// so each desk's runs stand in it by start; they are chained, so that no desk looks at the runs of another.
+// Run records by desk and then by start, behind the result records. The log has the runs in the order in which they
+// begin, so each desk's runs stand in it by start; they are chained, so that no desk looks at the runs of another.
 use records::put::put_record;
 ghost use Prim.Native.Nat.{_+_, _≤_, _<_};
 ghost use mathlib.Core.Path.{_≡_};
@@ -78,8 +78,10 @@ pub fn put_runs(
     at: usize,
     buffer: &mut [u8],
 )
-    requires { ⌜ LogFits count (now pieces) × (at + length (runsIn 32 count (now desks) (now pieces) (now froms) (now untils)) ≤ length (now buffer)) ⌝ }
-    ensures { λ _. ⌜ now (buffer .exit) ≡ sets (now (buffer .entry)) at (runsIn 32 count (now (desks .entry)) (now (pieces .entry)) (now (froms .entry)) (now (untils .entry))) ⌝ }
+    requires { ⌜ LogFits count (now pieces)
+        × (at + length (runsIn 32 count (now desks) (now pieces) (now froms) (now untils)) ≤ length (now buffer)) ⌝ }
+    ensures { λ _. ⌜ now (buffer .exit) ≡ sets (now (buffer .entry)) at (runsIn 32 count (now (desks .entry))
+        (now (pieces .entry)) (now (froms .entry)) (now (untils .entry))) ⌝ }
 {
     let mut first = [0u16; 256];
     let mut later = [0u16; 512];

@@ -48,7 +48,8 @@ pub fn put_record(
     c: u32,
 )
     requires { ⌜ at + 16 ≤ length (now buffer) ⌝ }
-    ensures { λ _. ⌜ now (buffer .exit) ≡ sets (now (buffer .entry)) at (planRecord kind desk number (word a) (word b) (word c)) ⌝ }
+    ensures { λ _. ⌜ now (buffer .exit)
+        ≡ sets (now (buffer .entry)) at (planRecord kind desk number (word a) (word b) (word c)) ⌝ }
 {
     put_head(buffer, at, kind, desk, number);
     put_word(buffer, at + 4, a);

@@ -28,7 +28,8 @@ unfolding kindFault valueFault
 returns-2 c J n m =
     let start = c .before .before .before .before in
     let r = now (start .before .before .args .r) in
-    let values = c .before .link-fault .ensures ∙ ap₂ linkFault (sym n) (c .before .before .link-of .ensures) in
+    let fields = c .before .before .link-of .ensures in
+    let values = c .before .link-fault .ensures ∙ ap₂ linkFault (sym n) fields in
     values-decide ofLink J r refl (start .link-order-fault .ensures J m) (c .before .before .before .if1 .left) values
     (c .if2 .taken)
 
@@ -40,7 +41,8 @@ unfolding kindFault valueFault
 returns-3 c J n m =
     let start = c .before .before .before .before .before in
     let r = now (start .before .before .args .r) in
-    let values = c .before .before .link-fault .ensures ∙ ap₂ linkFault (sym n) (c .before .before .before .link-of .ensures) in
+    let fields = c .before .before .before .link-of .ensures in
+    let values = c .before .before .link-fault .ensures ∙ ap₂ linkFault (sym n) fields in
     zeros-decide ofLink J r refl (start .link-order-fault .ensures J m) (c .before .before .before .before .if1 .left)
     values (c .before .if2 .left) (c .link-zero-fault .ensures)
 

@@ -28,7 +28,8 @@ unfolding kindFault valueFault
 returns-2 c J n m =
     let start = c .before .before .before .before in
     let r = now (start .before .before .args .r) in
-    let values = c .before .piece-fault .ensures ∙ ap pieceFault (c .before .before .piece-of .ensures) in
+    let fields = c .before .before .piece-of .ensures in
+    let values = c .before .piece-fault .ensures ∙ ap pieceFault fields in
     values-decide ofPiece J r refl (start .piece-order-fault .ensures J n m) (c .before .before .before .if1 .left) values
     (c .if2 .taken)
 
@@ -40,7 +41,8 @@ unfolding kindFault valueFault
 returns-3 c J n m =
     let start = c .before .before .before .before .before in
     let r = now (start .before .before .args .r) in
-    let values = c .before .before .piece-fault .ensures ∙ ap pieceFault (c .before .before .before .piece-of .ensures) in
+    let fields = c .before .before .before .piece-of .ensures in
+    let values = c .before .before .piece-fault .ensures ∙ ap pieceFault fields in
     zeros-decide ofPiece J r refl (start .piece-order-fault .ensures J n m) (c .before .before .before .before .if1 .left)
     values (c .before .if2 .left) (c .piece-zero-fault .ensures)
 
