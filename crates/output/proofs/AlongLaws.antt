@@ -71,7 +71,6 @@ module _ (count : ℕ) (desks pieces froms untils : List ℕ) (d : ℕ) (b : Lis
       (λ j t l. one-passed desks pieces froms untils d b at j buf next l t) (count - a .done) (a .done)
       (sym (a .onward) ∙ e) (a .logged))
 
-  -- What is left of the log falls along the chain.
   pub along-less : (buf : List ℕ) (next run k : ℕ) (first later : List ℕ)
       → RunsChained desks pieces count 0 first later → Here buf next k → run ≡ k + 1
       → ahead count (getD later k 0) < ahead count run

@@ -1,12 +1,12 @@
--- Chains of runs: one run more at the front of its chain leaves the other chains as they are; and a chain is walked past
--- exactly the runs of its desk, so that whatever the others leave as it is goes along.
+-- Chains of runs. One run more at the front of its chain leaves the other chains as they are. A chain is walked past
+-- exactly the runs of its desk, so whatever the others leave as it is goes along.
 use Prim.Native.Nat.{ℕ, zero, suc, _+_, _-_, _≤_, _<_}
 use mathlib.Core.Bool.{true, false}
 use mathlib.Core.List.{List}
 use mathlib.Core.Path.{_≡_, sym, ap, subst, _∙_}
 use native.Mathlib.Numerals.{add-one}
 use native.Mathlib.Omega.{arith}
-use borrow.Author.Tests.{eqb-true, eqb-false, eq-eqb, ltb-true, ltb-false}
+use borrow.Author.Tests.{eqb-true, eqb-false, ltb-true, ltb-false}
 use lib.Dec.{eqb, ltb}
 use lib.ListN.{length, getD, set, length-set}
 use lib.Seq.{getD-set-same, getD-set-other}
@@ -14,6 +14,7 @@ use Rattle.rules.specs.Words.{when}
 use Rattle.laws.proofs.Words.{by-test, when-true, when-false}
 use Rattle.output.specs.Chained.{deskAt, nextRun, RunsChained, ToChain}
 
+-- How much of a log is left from the run that a chain has come to; nothing at its end.
 abbrev pub ahead : ℕ → ℕ → ℕ
 ahead count zero = 0
 ahead count (suc k) = count - k
@@ -107,7 +108,7 @@ module _ (desks pieces : List ℕ) where
       let ih : nextRun desks pieces d left (k + 1) ≤ k + 1 + left = next-most d left (k + 1) in
       by-test (eqb (deskAt desks pieces k) d) (λ e. rw (e, when) (omega arith)) (λ e. rw (e, when) (omega arith))
 
-  -- How much of a log is left from the run that a chain has come to; nothing at its end. It falls along the chain.
+  -- What is left falls along the chain.
   pub ahead-less : (count d left k run next : ℕ) → k < count → run ≡ k + 1 → next ≡ nextRun desks pieces d left (k + 1) →
       ahead count next < ahead count run
   ahead-less count d left k run zero h e n =
