@@ -2,15 +2,13 @@
 -- and every kind byte but 1 and 2 is unknown.
 use Prim.Native.Nat.{ℕ, zero, suc, _≤_, _<_}
 use mathlib.Core.List.{List}
-use mathlib.Core.Path.{_≡_, refl, ap, ap₂, sym, _∙_}
+use mathlib.Core.Path.{_≡_, refl, ap, ap₂, _∙_}
 use borrow.Author.Tests.{lt-ltb, le-ltb}
 use Rattle.rules.specs.File.{byteAt, wholeRecords, recordAt, Kind, ofPiece, ofLink, unknown, kindOf}
 use Rattle.rules.specs.Job.{Job}
-use Rattle.rules.specs.Reading.{firstFault, kindFault, orderFault, valueFault, zeroFault, recordFault}
-use Rattle.rules.specs.Reading.{unlessFault, contents, judged, atEnd, itemAt}
+use Rattle.rules.specs.Reading.{recordFault, unlessFault, contents, judged, atEnd, itemAt}
 use Rattle.rules.specs.declared.Item.{Item}
 use Rattle.rules.specs.declared.Item.the-variants.{Stop}
-use Rattle.judge.proofs.InTurn.{later-fault}
 use Rattle.cursor.specs.JudgedAs.{judgedAs}
 
 -- A fault is the refusal of the record; without one the record says what it holds.
@@ -52,15 +50,10 @@ pub judged-unknown : (J : Job) (k : ℕ) (r : List ℕ) → (byteAt r 0 ≡ 1 �
 unfolding recordFault unlessFault
 judged-unknown J k r h1 h2 = judged-as unknown J k r (kind-unknown (byteAt r 0) h1 h2)
 
--- The judgements of a record of a known kind in turn: what the parts of the code answer is what the record is judged.
-pub judged-in-turn : (kind : Kind) (J : Job) (k : ℕ) (r : List ℕ) {order values zeros fault : ℕ} {item i : Item} →
-    kindFault kind ≡ 0 → order ≡ orderFault kind J → values ≡ valueFault kind J r → zeros ≡ zeroFault kind r →
-    fault ≡ firstFault order (firstFault values zeros) → item ≡ contents kind r → i ≡ unlessFault fault k item →
-    i ≡ judgedAs kind k r J
-unfolding recordFault
-judged-in-turn kind J k r known o v z f it e =
-    e ∙ ap₂ (λ n x. unlessFault n k x)
-    (f ∙ ap₂ firstFault o (ap₂ firstFault v z) ∙ sym (later-fault (kindFault kind) _ known)) it
+-- What the code finds as the record's fault, and what it reads of it, are what the record is judged.
+pub judged-by : (kind : Kind) (J : Job) (k : ℕ) (r : List ℕ) {fault : ℕ} {item i : Item} →
+    fault ≡ recordFault kind J r → item ≡ contents kind r → i ≡ unlessFault fault k item → i ≡ judgedAs kind k r J
+judged-by kind J k r f it e = e ∙ ap₂ (λ n x. unlessFault n k x) f it
 
 -- Record k is judged where it stands in the file; behind the last record comes the end.
 pub item-record : (s : List ℕ) (k : ℕ) (J : Job) → k < wholeRecords s → itemAt s k J ≡ judged J k (recordAt s k)

@@ -1,4 +1,3 @@
 -- The laws of the reader of one record, for the proofs of this crate and of those above it.
 pub mod Judged
-pub mod Clean
 pub mod Held

@@ -1,11 +1,6 @@
 // The reader's answer for one record: what it says, or its refusal, or that the file is at its end.
-use judge::faults::in_turn;
-use judge::faults::link_fault;
-use judge::faults::link_order_fault;
-use judge::faults::link_zero_fault;
-use judge::faults::piece_fault;
-use judge::faults::piece_order_fault;
-use judge::faults::piece_zero_fault;
+use judge::faults::link_record_fault;
+use judge::faults::piece_record_fault;
 use judge::fields::link_of;
 use judge::fields::piece_of;
 use rules::Item;
@@ -30,16 +25,13 @@ fn unless_fault(fault: u8, k: u64, item: Item) -> Item
     })
 }
 
-// Record k as a piece: its order, its values, its zero bytes.
+// Record k as a piece.
 fn piece_item(r: &[u8], k: u64, pieces: usize, links: usize) -> Item
     requires { ⌜ length (now r) ≡ 16 ⌝ }
     ensures { λ i. ⌜ Says pieces links i (judgedAs ofPiece k (now (r .entry))) ⌝ }
 {
     let p = piece_of(r);
-    let order = piece_order_fault(pieces, links);
-    let values = piece_fault(p);
-    let zeros = piece_zero_fault(r);
-    unless_fault(in_turn(order, values, zeros), k, Item::Work(p))
+    unless_fault(piece_record_fault(r, pieces, links), k, Item::Work(p))
 }
 
 // Record k as a link.
@@ -48,10 +40,7 @@ fn link_item(r: &[u8], k: u64, pieces: usize, links: usize) -> Item
     ensures { λ i. ⌜ Says pieces links i (judgedAs ofLink k (now (r .entry))) ⌝ }
 {
     let l = link_of(r);
-    let order = link_order_fault(links);
-    let values = link_fault(pieces, l);
-    let zeros = link_zero_fault(r);
-    unless_fault(in_turn(order, values, zeros), k, Item::Tie(l))
+    unless_fault(link_record_fault(r, pieces, links), k, Item::Tie(l))
 }
 
 // Record k, its bytes r, with so many pieces and links read before it.

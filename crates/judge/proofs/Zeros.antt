@@ -6,7 +6,7 @@ use mathlib.Core.Path.{_≡_}
 use native.Mathlib.Omega.{arith}
 use lib.Dec.{eqb}
 use borrow.Author.Tests.{eq-eqb, eqb-true}
-use Rattle.judge.proofs.Tests.{by-test}
+use Rattle.laws.proofs.Words.{by-test}
 
 -- The number in four bytes is zero where they are.
 pub zeros : (a b c d : ℕ) (rest : Bool) →

@@ -1,4 +1,6 @@
 // The faults of a record, each judgement a function of its own: the number of the refusal, and 0 where there is none.
+use crate::fields::link_of;
+use crate::fields::piece_of;
 use crate::fields::word_at;
 use rules::Link;
 use rules::Piece;
@@ -6,11 +8,11 @@ ghost use mathlib.Core.Path.{_≡_};
 ghost use lib.ListN.{length};
 ghost use Rattle.rules.specs.File.{ofPiece, ofLink};
 ghost use Rattle.rules.specs.Job.{Job};
-ghost use Rattle.rules.specs.Reading.{pieceFault, linkFault, zeroFault, orderFault, firstFault};
+ghost use Rattle.rules.specs.Reading.{pieceFault, linkFault, zeroFault, orderFault, recordFault};
 ghost use Rattle.judge.specs.Says.{Says};
 
 // The values of a piece: 5, 6, 7.
-pub fn piece_fault(p: Piece) -> u8
+fn piece_fault(p: Piece) -> u8
     ensures { λ n. ⌜ n ≡ pieceFault p ⌝ }
 {
     if 31 < p.desk {
@@ -32,7 +34,7 @@ pub fn piece_fault(p: Piece) -> u8
 }
 
 // The values of a link with so many pieces read before it: 9, 10.
-pub fn link_fault(pieces: usize, l: Link) -> u8
+fn link_fault(pieces: usize, l: Link) -> u8
     ensures { λ n. ⌜ n ≡ linkFault pieces l ⌝ }
 {
     let before = l.before as usize;
@@ -50,7 +52,7 @@ pub fn link_fault(pieces: usize, l: Link) -> u8
 }
 
 // The bytes of a piece's record that must be zero: 8.
-pub fn piece_zero_fault(r: &[u8]) -> u8
+fn piece_zero_fault(r: &[u8]) -> u8
     requires { ⌜ length (now r) ≡ 16 ⌝ }
     ensures { λ n. ⌜ n ≡ zeroFault ofPiece (now (r .entry)) ⌝ }
 {
@@ -61,7 +63,7 @@ pub fn piece_zero_fault(r: &[u8]) -> u8
 }
 
 // The bytes of a link's record that must be zero: 8.
-pub fn link_zero_fault(r: &[u8]) -> u8
+fn link_zero_fault(r: &[u8]) -> u8
     requires { ⌜ length (now r) ≡ 16 ⌝ }
     ensures { λ n. ⌜ n ≡ zeroFault ofLink (now (r .entry)) ⌝ }
 {
@@ -78,7 +80,7 @@ pub fn link_zero_fault(r: &[u8]) -> u8
 }
 
 // A piece's place in the file, behind so many pieces and links: 3, 4.
-pub fn piece_order_fault(pieces: usize, links: usize) -> u8
+fn piece_order_fault(pieces: usize, links: usize) -> u8
     ensures { λ n. ⌜ Says pieces links n (orderFault ofPiece) ⌝ }
 {
     if 0 < links {
@@ -91,7 +93,7 @@ pub fn piece_order_fault(pieces: usize, links: usize) -> u8
 }
 
 // A link's place in the file, behind so many links: 4.
-pub fn link_order_fault(links: usize) -> u8
+fn link_order_fault(links: usize) -> u8
     ensures { λ n. ⌜ ((J : Job) → length (J .links) ≡ links → n ≡ orderFault ofLink J) ⌝ }
 {
     if 1024 <= links {
@@ -100,19 +102,35 @@ pub fn link_order_fault(links: usize) -> u8
     0
 }
 
-// One judgement after another.
-fn first_fault(fault: u8, later: u8) -> u8
-    ensures { λ n. ⌜ n ≡ firstFault fault later ⌝ }
+// The whole judgement of a piece's record behind so many pieces and links, in the page's order: its order, its values,
+// its zero bytes. The first fault found ends it.
+pub fn piece_record_fault(r: &[u8], pieces: usize, links: usize) -> u8
+    requires { ⌜ length (now r) ≡ 16 ⌝ }
+    ensures { λ n. ⌜ Says pieces links n (λ J. recordFault ofPiece J (now (r .entry))) ⌝ }
 {
-    if fault == 0 {
-        return later;
+    let order = piece_order_fault(pieces, links);
+    if order != 0 {
+        return order;
     }
-    fault
+    let values = piece_fault(piece_of(r));
+    if values != 0 {
+        return values;
+    }
+    piece_zero_fault(r)
 }
 
-// The judgements of a record of a known kind, in the page's order: its order, its values, its zero bytes.
-pub fn in_turn(order: u8, values: u8, zeros: u8) -> u8
-    ensures { λ n. ⌜ n ≡ firstFault order (firstFault values zeros) ⌝ }
+// The same of a link's record.
+pub fn link_record_fault(r: &[u8], pieces: usize, links: usize) -> u8
+    requires { ⌜ length (now r) ≡ 16 ⌝ }
+    ensures { λ n. ⌜ Says pieces links n (λ J. recordFault ofLink J (now (r .entry))) ⌝ }
 {
-    first_fault(order, first_fault(values, zeros))
+    let full = link_order_fault(links);
+    if full != 0 {
+        return full;
+    }
+    let wrong = link_fault(pieces, link_of(r));
+    if wrong != 0 {
+        return wrong;
+    }
+    link_zero_fault(r)
 }

@@ -158,7 +158,8 @@ module _ (m : ℕ) (befores afters : List ℕ) where
       (λ e. by-test (eqb (getD order h 0) (getD befores k 0))
       (λ f. let q : getD befores k 0 ≡ getD order h 0 = sym (eqb-true (getD order h 0) (getD befores k 0) f) in
       rw (e, q, new, eq-eqb (getD order h 0) (getD order h 0) refl, when))
-      (λ f. let no : getD befores k 0 ≡ getD order h 0 → ⊥ = λ q. eqb-false (getD order h 0) (getD befores k 0) f (sym q) in
+      (λ f.
+      let no : getD befores k 0 ≡ getD order h 0 → ⊥ = λ q. eqb-false (getD order h 0) (getD befores k 0) f (sym q) in
       rw (e, f, ne-eqb (getD befores k 0) (getD order h 0) no, when) (omega arith)))
       (λ e. by-test (eqb (getD befores k 0) (getD order h 0)) (λ f. rw (e, f, when)) (λ f. rw (e, f, when))))
 

@@ -1,5 +1,5 @@
--- The figures grow with the pieces: with one piece more, the largest finish is the greater of what it was and that piece's,
--- and so is the worst lateness.
+-- The figures grow with the pieces: with one piece more, the largest finish is the greater of what it was and that
+-- piece's, and so is the worst lateness.
 use Prim.Native.Nat.{ℕ, zero, suc, _+_, _^_, _≤_, _<_}
 use mathlib.Core.Bool.{true, false}
 use mathlib.Core.List.{List, [], _∷_, map}
@@ -14,13 +14,16 @@ use lib.Signed.{mag}
 use mir.Syntax.{w32}
 use mir.Val.{SFits}
 use Rattle.rules.specs.Words.{greater, greatest, greaterZ, greatestZ, worstOf, row, below}
-use Rattle.laws.proofs.Words.{by-test, mem-below, below-mem, greater-left, greater-right, greater-least, greatest-start, greatest-of, greatest-within}
-use Rattle.laws.proofs.Signed.{up, dn, _≼_, same, minus, greaterZ-left, greaterZ-right, greaterZ-least, greatestZ-start, greatestZ-mem, greatestZ-least}
+use Rattle.laws.proofs.Words.{by-test, mem-below, below-mem, greater-left, greater-right, greater-least}
+use Rattle.laws.proofs.Words.{greatest-start, greatest-of, greatest-within}
+use Rattle.laws.proofs.Signed.{up, dn, _≼_, same, minus, greaterZ-left, greaterZ-right, greaterZ-least}
+use Rattle.laws.proofs.Signed.{greatestZ-start, greatestZ-mem, greatestZ-least}
 use Rattle.laws.proofs.Words.{mem-map, mem-row, row-mem}
 use Rattle.laws.proofs.Joined.{mem-of-map}
 use Rattle.output.specs.Late.{Bounded, latenessOf}
 
-pub largest-more : (f : ℕ → ℕ) (k : ℕ) → greater (greatest 0 (map f (below k))) (f k) ≡ greatest 0 (map f (below (k + 1)))
+pub largest-more : (f : ℕ → ℕ) (k : ℕ) → greater (greatest 0 (map f (below k))) (f k)
+    ≡ greatest 0 (map f (below (k + 1)))
 largest-more f k = rw add-one (le-antisymm
     (greater-least (greatest 0 (map f (below k))) (f k) (greatest 0 (map f (below (suc k))))
     (greatest-within f 0 (greatest 0 (map f (below (suc k)))) (below k) (omega arith)
@@ -28,7 +31,12 @@ largest-more f k = rw add-one (le-antisymm
     (greatest-of f 0 (below (suc k)) k (below-mem (suc k) k (omega arith))))
     (greatest-within f 0 (greater (greatest 0 (map f (below k))) (f k)) (below (suc k)) (omega arith)
     (λ i m. by-test (ltb i k)
-    (λ e. omega (arith, greatest-of f 0 (below k) i (below-mem k i (ltb-true i k e)), greater-left (greatest 0 (map f (below k))) (f k)))
+    (λ e.
+    omega (
+      arith,
+      greatest-of f 0 (below k) i (below-mem k i (ltb-true i k e)),
+      greater-left (greatest 0 (map f (below k))) (f k),
+    ))
     (λ e. let q : f i ≡ f k = ap f (omega (arith, ltb-false i k e, mem-below (suc k) i m)) in
     omega (arith, greater-right (greatest 0 (map f (below k))) (f k))))))
 
@@ -37,7 +45,8 @@ worst-each : (f : ℕ → ℤ) (n i : ℕ) → i < suc n → f i ≼ worstOf (ma
 unfolding worstOf below row
 worst-each f n zero h = greatestZ-start (f 0) (map f (row 1 n))
 worst-each f n (suc i) h =
-    greatestZ-mem (f 0) (map f (row 1 n)) (f (suc i)) (mem-map f (row 1 n) (suc i) (row-mem n 1 (suc i) (omega arith) (omega arith)))
+    greatestZ-mem (f 0) (map f (row 1 n)) (f (suc i))
+    (mem-map f (row 1 n) (suc i) (row-mem n 1 (suc i) (omega arith) (omega arith)))
 
 worst-bound : (f : ℕ → ℤ) (n : ℕ) (c : ℤ) → ((i : ℕ) → i < suc n → f i ≼ c) → worstOf (map f (below (suc n))) ≼ c
 unfolding worstOf below row
@@ -53,7 +62,8 @@ pub worst-one : (f : ℕ → ℤ) → worstOf (map f (below 1)) ≡ f 0
 unfolding worstOf greatestZ below row
 worst-one f = refl
 
-pub worst-more : (f : ℕ → ℤ) (k : ℕ) → 1 ≤ k → greaterZ (worstOf (map f (below k))) (f k) ≡ worstOf (map f (below (k + 1)))
+pub worst-more : (f : ℕ → ℤ) (k : ℕ) → 1 ≤ k → greaterZ (worstOf (map f (below k))) (f k)
+    ≡ worstOf (map f (below (k + 1)))
 worst-more f zero h = absurd (omega arith)
 worst-more f (suc n) h = rw add-one (both-ways _ _
     (greaterZ-least (worstOf (map f (below (suc n)))) (f (suc n)) (worstOf (map f (below (suc (suc n)))))
@@ -61,7 +71,12 @@ worst-more f (suc n) h = rw add-one (both-ways _ _
     (worst-each f (suc n) (suc n) (omega arith)))
     (worst-bound f (suc n) (greaterZ (worstOf (map f (below (suc n)))) (f (suc n)))
     (λ i l. by-test (ltb i (suc n))
-    (λ e. omega (arith, worst-each f n i (ltb-true i (suc n) e), greaterZ-left (worstOf (map f (below (suc n)))) (f (suc n))))
+    (λ e.
+    omega (
+      arith,
+      worst-each f n i (ltb-true i (suc n) e),
+      greaterZ-left (worstOf (map f (below (suc n)))) (f (suc n)),
+    ))
     (λ e. let q : i ≡ suc n = omega (arith, ltb-false i (suc n) e) in
     rw q (greaterZ-right (worstOf (map f (below (suc n)))) (f (suc n)))))))
 

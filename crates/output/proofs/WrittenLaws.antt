@@ -20,21 +20,25 @@ use Rattle.output.specs.Written.{resultIn, resultsIn, deskRunsIn, runsIn
 
 module _ (desks starts finishes : List ℕ) (latests : List ℤ) where
   pub result-is : (i : ℕ) → resultIn desks starts finishes latests i
-      ≡ planRecord 17 (getD desks i 0) i (word (getD starts i 0)) (word (getD finishes i 0)) (signedWord (getD latests i (pos 0)))
+      ≡ planRecord 17 (getD desks i 0) i (word (getD starts i 0)) (word (getD finishes i 0))
+      (signedWord (getD latests i (pos 0)))
   unfolding resultIn
   result-is i = refl
 
   result-length : (i : ℕ) → length (resultIn desks starts finishes latests i) ≡ 16
   unfolding resultIn
   result-length i =
-      record-sized 17 (getD desks i 0) i (word (getD starts i 0)) (word (getD finishes i 0)) (signedWord (getD latests i (pos 0)))
+      record-sized 17 (getD desks i 0) i (word (getD starts i 0)) (word (getD finishes i 0))
+      (signedWord (getD latests i (pos 0)))
       (word-sized (getD starts i 0)) (word-sized (getD finishes i 0)) (signed-sized (getD latests i (pos 0)))
 
   pub results-length : (n : ℕ) → length (resultsIn n desks starts finishes latests) ≡ 16 * n
   unfolding resultsIn
   results-length n =
       records-sized (map (resultIn desks starts finishes latests) (below n))
-      (λ r m. let w = mem-of-map (resultIn desks starts finishes latests) (below n) r m in rw (w .2) (result-length (w .0)))
+      (λ r m.
+      let w = mem-of-map (resultIn desks starts finishes latests) (below n) r m in
+      rw (w .2) (result-length (w .0)))
       ∙ ap (λ x. 16 * x) (length-map (below n) (resultIn desks starts finishes latests) ∙ length-below n)
 
   pub results-more : (b : List ℕ) (i : ℕ)
@@ -51,11 +55,14 @@ module _ (desks starts finishes : List ℕ) (latests : List ℤ) where
   -- One record more, as `put_record` stores it.
   pub results-step : (b buf buf′ : List ℕ) (i w : ℕ) → buf ≡ sets b 0 (resultsIn i desks starts finishes latests)
       → word w ≡ signedWord (getD latests i (pos 0))
-      → buf′ ≡ sets buf (16 * i) (planRecord 17 (getD desks i 0) i (word (getD starts i 0)) (word (getD finishes i 0)) (word w))
+      → buf′ ≡ sets buf (16 * i)
+      (planRecord 17 (getD desks i 0) i (word (getD starts i 0)) (word (getD finishes i 0)) (word w))
       → (length buf′ ≡ length buf) × (buf′ ≡ sets b 0 (resultsIn (i + 1) desks starts finishes latests))
   results-step b buf buf′ i w before signed put = (
-    ap length put ∙ length-sets buf (16 * i) (planRecord 17 (getD desks i 0) i (word (getD starts i 0)) (word (getD finishes i 0)) (word w)),
-    put ∙ ap (λ x. sets buf (16 * i) (planRecord 17 (getD desks i 0) i (word (getD starts i 0)) (word (getD finishes i 0)) x)) signed
+    ap length put ∙ length-sets buf (16 * i)
+        (planRecord 17 (getD desks i 0) i (word (getD starts i 0)) (word (getD finishes i 0)) (word w)),
+    put ∙ ap (λ x. sets buf (16 * i)
+        (planRecord 17 (getD desks i 0) i (word (getD starts i 0)) (word (getD finishes i 0)) x)) signed
         ∙ ap (sets buf (16 * i)) (sym (result-is i))
         ∙ ap (λ x. sets x (16 * i) (resultIn desks starts finishes latests i)) before ∙ results-more b i,
   )
@@ -84,11 +91,13 @@ module _ (desks pieces froms untils : List ℕ) (d : ℕ) where
       (not-kept-more (λ k. eqb (getD desks (getD pieces k 0) 0) d) k e)
 
   -- More of the log, more bytes.
-  pub runs-grow : (k n : ℕ) → length (deskRunsIn k desks pieces froms untils d) ≤ length (deskRunsIn (k + n) desks pieces froms untils d)
+  pub runs-grow : (k n : ℕ) → length (deskRunsIn k desks pieces froms untils d)
+      ≤ length (deskRunsIn (k + n) desks pieces froms untils d)
   runs-grow k zero = let q : k + 0 ≡ k = omega arith in rw q (omega arith)
   runs-grow k (suc n) =
       let q : k + suc n ≡ suc (k + n) = omega arith in
-      let ih : length (deskRunsIn k desks pieces froms untils d) ≤ length (deskRunsIn (k + n) desks pieces froms untils d) =
+      let ih : length (deskRunsIn k desks pieces froms untils d)
+      ≤ length (deskRunsIn (k + n) desks pieces froms untils d) =
       runs-grow k n in
       by-test (eqb (getD desks (getD pieces (k + n) 0) 0) d)
       (λ e. rw (
@@ -104,7 +113,8 @@ module _ (desks pieces froms untils : List ℕ) (d : ℕ) where
       → length (deskRunsIn k desks pieces froms untils d) + 16 ≤ length (deskRunsIn count desks pieces froms untils d)
   run-room k count h e =
       let q : suc k + (count - suc k) ≡ count = omega arith in
-      let grown : length (deskRunsIn (suc k) desks pieces froms untils d) ≤ length (deskRunsIn count desks pieces froms untils d) =
+      let grown : length (deskRunsIn (suc k) desks pieces froms untils d)
+      ≤ length (deskRunsIn count desks pieces froms untils d) =
       rw q at (runs-grow (suc k) (count - suc k)) in
       omega (
         arith,
@@ -123,14 +133,22 @@ module _ (desks pieces froms untils : List ℕ) (d : ℕ) where
   unfolding deskRunsIn loggedRuns keep below
   none-logged b at = record { same = refl; bytes = refl; past = omega arith }
 
-  pub one-logged : (b : List ℕ) (at k : ℕ) (buf buf′ : List ℕ) (next : ℕ) → Logged desks pieces froms untils d b at k buf next
+  pub one-logged : (b : List ℕ) (at k : ℕ) (buf buf′ : List ℕ) (next : ℕ)
+      → Logged desks pieces froms untils d b at k buf next
       → eqb (getD desks (getD pieces k 0) 0) d ≡ true
-      → buf′ ≡ sets buf next (planRecord 18 d (getD pieces k 0) (word (getD froms k 0)) (word (getD untils k 0)) (word 0))
+      → buf′ ≡ sets buf next
+      (planRecord 18 d (getD pieces k 0) (word (getD froms k 0)) (word (getD untils k 0)) (word 0))
       → Logged desks pieces froms untils d b at (k + 1) buf′ (next + 16)
   one-logged b at k buf buf′ next l e put = rw add-one (record {
-    same = ap length put ∙ length-sets buf next (planRecord 18 d (getD pieces k 0) (word (getD froms k 0)) (word (getD untils k 0)) (word 0)) ∙ l .same;
-    bytes = put ∙ ap (sets buf next) (sym (run-is k)) ∙ ap (λ x. sets x next (runRecord d (runAt pieces froms untils k))) (l .bytes)
-        ∙ ap (λ x. sets (sets b at (deskRunsIn k desks pieces froms untils d)) x (runRecord d (runAt pieces froms untils k))) (l .past)
+    same =
+        ap length put
+        ∙ length-sets buf next
+        (planRecord 18 d (getD pieces k 0) (word (getD froms k 0)) (word (getD untils k 0)) (word 0)) ∙ l .same;
+    bytes =
+        put ∙ ap (sets buf next) (sym (run-is k))
+        ∙ ap (λ x. sets x next (runRecord d (runAt pieces froms untils k))) (l .bytes)
+        ∙ ap (λ x. sets (sets b at (deskRunsIn k desks pieces froms untils d)) x
+        (runRecord d (runAt pieces froms untils k))) (l .past)
         ∙ sets-on b at (deskRunsIn k desks pieces froms untils d) (runRecord d (runAt pieces froms untils k))
         ∙ ap (sets b at) (sym (run-more k e));
     past = omega (

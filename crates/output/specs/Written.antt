@@ -1,5 +1,5 @@
--- The bytes of result and run records in terms of the tables of a finished plan: for each piece its desk, start, finish and
--- latest moment; for each run of the log its piece, its first slot and one past its last.
+-- The bytes of result and run records in terms of the tables of a finished plan: for each piece its desk, start, finish
+-- and latest moment; for each run of the log its piece, its first slot and one past its last.
 use Prim.Native.Nat.{ℕ, _+_, _≤_, _<_}
 use mathlib.Core.Bool.{true}
 use mathlib.Core.List.{List, map}
@@ -15,7 +15,8 @@ use Rattle.steps.specs.Log.{runAt, loggedRuns}
 unfoldable pub resultIn : List ℕ → List ℕ → List ℕ → List ℤ → ℕ → List ℕ
 unfolding planRecord word signedWord
 resultIn desks starts finishes latests i =
-    planRecord 17 (getD desks i 0) i (word (getD starts i 0)) (word (getD finishes i 0)) (signedWord (getD latests i (pos 0)))
+    planRecord 17 (getD desks i 0) i (word (getD starts i 0)) (word (getD finishes i 0))
+    (signedWord (getD latests i (pos 0)))
 
 unfoldable pub resultsIn : ℕ → List ℕ → List ℕ → List ℕ → List ℤ → List ℕ
 unfolding joined resultIn below
@@ -36,19 +37,13 @@ pub record LogFits (count : ℕ) (pieces : List ℕ) : Type 0 where
   pub few : count ≤ 512
   pub known : (k : ℕ) → k < count → getD pieces k 0 < 256
 
--- The records of the desk among the first k of the log stand in the buffer, which was b, from `at` on; the next record goes
--- right behind them.
+-- The records of the desk among the first k of the log stand in the buffer, which was b, from `at` on; the next record
+-- goes right behind them.
 module _ (desks pieces froms untils : List ℕ) (d : ℕ) where
   pub record Logged (b : List ℕ) (at k : ℕ) (buf : List ℕ) (next : ℕ) : Type 0 where
     pub same : length buf ≡ length b
     pub bytes : buf ≡ sets b at (deskRunsIn k desks pieces froms untils d)
     pub past : next ≡ at + length (deskRunsIn k desks pieces froms untils d)
-
-  -- There is room for the run at place k, if it is the desk's.
-  pub record RunFits (k next : ℕ) (buf : List ℕ) : Type 0 where
-    pub place : k < 512
-    pub known : getD pieces k 0 < 256
-    pub room : eqb (getD desks (getD pieces k 0) 0) d ≡ true → next + 16 ≤ length buf
 
 -- The records of the first n desks stand in the buffer, which was b, from `at` on.
 module _ (count : ℕ) (desks pieces froms untils : List ℕ) where

@@ -16,7 +16,8 @@ pub fn put_results(
     buffer: &mut [u8],
 )
     requires { ⌜ (n ≤ 256) × (16 * n ≤ length (now buffer)) ⌝ }
-    ensures { λ _. ⌜ now (buffer .exit) ≡ sets (now (buffer .entry)) 0 (resultsIn n (now (desks .entry)) (now (starts .entry)) (now (finishes .entry)) (now (latests .entry))) ⌝ }
+    ensures { λ _. ⌜ now (buffer .exit) ≡ sets (now (buffer .entry)) 0 (resultsIn n (now (desks .entry))
+        (now (starts .entry)) (now (finishes .entry)) (now (latests .entry))) ⌝ }
 {
     let mut i = 0;
     while i < n {

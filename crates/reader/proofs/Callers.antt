@@ -1,16 +1,16 @@
--- What whoever calls `read_job` has in hand, by the case of its answer: the outcome of the file, the counts within the
--- tables, and a sound job in them.
-use Prim.Native.Nat.{ℕ, _≤_}
+-- What whoever calls `read_job` has in hand, by the case of its answer: the outcome of the file, and a sound job in the
+-- tables.
+use Prim.Native.Nat.{ℕ}
 use mathlib.Core.List.{List}
-use mathlib.Core.Path.{_≡_, ap, subst, _∙_}
+use mathlib.Core.Path.{_≡_, ap, _∙_}
 use Rattle.rules.specs.Job.{refused, accepted}
 use Rattle.rules.specs.Reading.{readJob}
 use Rattle.rules.specs.Tables.{Sound, jobIn}
 use Rattle.rules.specs.declared.Refusal.{Refusal}
-use Rattle.reader.specs.Outcome.{outcomeOf, Few, ReadsJob}
+use Rattle.laws.proofs.Reading.{job-sound}
+use Rattle.reader.specs.Outcome.{outcomeOf, ReadsJob}
 use Rattle.reader.specs.declared.Read.{Read}
 use Rattle.reader.specs.declared.Read.the-variants.{Job, Refused}
-use Rattle.reader.proofs.Sound.{FitTables, read-sound, sound-tables}
 
 module _ {s : List ℕ} {r : Read} {desks durations releases dues befores afters handovers : List ℕ}
     (read : ReadsJob s r desks durations releases dues befores afters handovers) where
@@ -22,11 +22,5 @@ module _ {s : List ℕ} {r : Read} {desks durations releases dues befores afters
     pub is-accepted : readJob s ≡ accepted (jobIn n m desks durations releases dues befores afters handovers)
     is-accepted = read .says ∙ ap (λ a. outcomeOf a desks durations releases dues befores afters handovers) e
 
-    pub is-few : (n ≤ 256) × (m ≤ 1024)
-    is-few = subst Few e (read .few)
-
     pub is-sound : Sound (jobIn n m desks durations releases dues befores afters handovers)
-    is-sound = read-sound s (jobIn n m desks durations releases dues befores afters handovers) is-accepted
-
-    pub is-fit : FitTables n m desks durations releases dues befores afters handovers
-    is-fit = sound-tables n m desks durations releases dues befores afters handovers is-sound
+    is-sound = job-sound s (jobIn n m desks durations releases dues befores afters handovers) is-accepted

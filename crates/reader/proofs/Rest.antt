@@ -16,7 +16,7 @@ use Rattle.rules.specs.declared.Link.{Link}
 use Rattle.rules.specs.declared.Refusal.{Refusal}
 use Rattle.rules.specs.declared.Item.{Item}
 use Rattle.rules.specs.declared.Item.the-variants.{Work, Tie, Stop, Done}
-use Rattle.judge.proofs.Tests.{by-test}
+use Rattle.laws.proofs.Words.{by-test}
 use Rattle.cursor.proofs.Judged.{item-end}
 use Rattle.reader.specs.Rest.{rest}
 

@@ -11,22 +11,11 @@ use Rattle.rules.specs.Tables.{piecesIn, linksIn}
 use Rattle.rules.specs.declared.Piece.{Piece}
 use Rattle.rules.specs.declared.Link.{Link}
 use Rattle.rules.specs.declared.Item.the-variants.{Work, Tie}
-use Rattle.judge.proofs.Fits.{piece-order, link-order}
-use Rattle.cursor.proofs.Clean.{piece-stands, link-stands}
+use Rattle.laws.proofs.Reading.{item-work, item-tie}
 use Rattle.reader.specs.Rest.{rest, jobOf}
 use Rattle.reader.specs.Sizes.{PieceTables, LinkTables}
-use Rattle.reader.proofs.Rows.{made-length}
-use Rattle.reader.proofs.Tables.{pieces-more, links-more}
+use Rattle.reader.proofs.Tables.{pieces-length, links-length, pieces-more, links-more}
 use Rattle.reader.proofs.Rest.{from-start, on-piece, on-link}
-
-pub pieces-length : (n : ℕ) (desks durations releases dues : List ℕ) →
-    length (piecesIn n desks durations releases dues) ≡ n
-unfolding piecesIn
-pieces-length n desks durations releases dues = made-length _ n
-
-pub links-length : (m : ℕ) (befores afters handovers : List ℕ) → length (linksIn m befores afters handovers) ≡ m
-unfolding linksIn
-links-length m befores afters handovers = made-length _ m
 
 -- The pieces taken in so far.
 pub record Front (s : List ℕ) (n : ℕ) (desks durations releases dues : List ℕ) : Type 0 where
@@ -46,8 +35,7 @@ module _ {s : List ℕ} {n : ℕ} {desks durations releases dues : List ℕ} (fr
 
   pub front-room : n < 256
   front-room =
-      let order = piece-order J (piece-stands s n J p read .0 .clean .order) .1 in
-      omega (arith, pieces-length n desks durations releases dues)
+      omega (arith, item-work s n J p read .room, pieces-length n desks durations releases dues)
 
   pub front-on :
       Front s (n + 1) (set desks n (p .desk)) (set durations n (p .duration)) (set releases n (p .release))
@@ -95,8 +83,7 @@ module _ {s : List ℕ} {n m : ℕ} {befores afters handovers : List ℕ} (behin
   behind-room =
       let P = replicate n noPiece in
       let here = read P (length-replicate n noPiece) in
-      let order = link-order (jobOf P L) (link-stands s (n + m) (jobOf P L) l here .0 .clean .order) in
-      omega (arith, links-length m befores afters handovers)
+      omega (arith, item-tie s (n + m) (jobOf P L) l here .room, links-length m befores afters handovers)
 
   pub behind-on :
       Behind s n (m + 1) (set befores m (l .before)) (set afters m (l .after)) (set handovers m (l .handover))

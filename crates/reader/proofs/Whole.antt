@@ -14,13 +14,12 @@ use Rattle.rules.specs.declared.Piece.{Piece}
 use Rattle.rules.specs.declared.Refusal.{Refusal}
 use Rattle.rules.specs.declared.Item.{Item}
 use Rattle.rules.specs.declared.Item.the-variants.{Work, Stop}
-use Rattle.judge.proofs.Fits.{piece-order}
-use Rattle.cursor.proofs.Clean.{piece-stands}
+use Rattle.laws.proofs.Reading.{item-work}
 use Rattle.judge.specs.Says.{Says}
 use Rattle.reader.specs.Rest.{rest, jobOf, PiecesRead, LinksRead}
 use Rattle.reader.proofs.Answers.{at-end}
 use Rattle.reader.proofs.Rest.{on-stop, on-done}
-use Rattle.reader.proofs.Taken.{pieces-length, links-length}
+use Rattle.reader.proofs.Tables.{pieces-length, links-length}
 
 module _ {s : List ℕ} {n m : ℕ} {desks durations releases dues befores afters handovers : List ℕ}
     (front : PiecesRead s n desks durations releases dues) (behind : LinksRead s n m befores afters handovers) where
@@ -38,8 +37,7 @@ module _ {s : List ℕ} {n m : ℕ} {desks durations releases dues befores after
   no-piece : (p : Piece) → itemAt s (n + m) job ≡ Work p → ⊥
   unfolding linksIn
   no-piece p h =
-      let none = piece-order job (piece-stands s (n + m) job p h .0 .clean .order) .0 in
-      let e : m ≡ 0 = sym (links-length m befores afters handovers) ∙ none in
+      let e : m ≡ 0 = sym (links-length m befores afters handovers) ∙ item-work s (n + m) job p h .no-link in
       let z : n + m ≡ n = omega arith in
       front .last p (rw (z, e) at h)
 

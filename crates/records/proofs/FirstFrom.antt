@@ -13,7 +13,8 @@ module _ (wanted : ℕ → Bool) (whole k : ℕ) where
   first-here h e =
       let q : whole - k ≡ suc (whole - suc k) = omega arith in rw q (when-true (wanted k) k _ e)
 
-  pub first-later : k < whole → wanted k ≡ false → firstFrom wanted (whole - (k + 1)) (k + 1) ≡ firstFrom wanted (whole - k) k
+  pub first-later : k < whole → wanted k ≡ false
+      → firstFrom wanted (whole - (k + 1)) (k + 1) ≡ firstFrom wanted (whole - k) k
   unfolding firstFrom
   first-later h e =
       let q : whole - k ≡ suc (whole - (k + 1)) = omega arith in rw q (sym (when-false (wanted k) k _ e))

@@ -8,7 +8,8 @@ use lib.ListN.{length, set}
 use lib.Seq.{sets}
 use Rattle.rules.specs.Bytes.{half, word, planRecord}
 
-pub sets-on : {A : Type 0} (l : List A) (i : ℕ) (xs ys : List A) → sets (sets l i xs) (i + length xs) ys ≡ sets l i (xs ++ ys)
+pub sets-on : {A : Type 0} (l : List A) (i : ℕ) (xs ys : List A)
+    → sets (sets l i xs) (i + length xs) ys ≡ sets l i (xs ++ ys)
 sets-on l i [] ys = rw add-zero
 sets-on l i (x ∷ xs) ys =
     let q : i + suc (length xs) ≡ suc i + length xs = omega arith in rw q (sets-on (set l i x) (suc i) xs ys)

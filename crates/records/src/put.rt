@@ -1,7 +1,7 @@
 // Writes one record of a plan at a place of the lent buffer: kind, desk, a number of two bytes, and three words of four
 // bytes, little-endian. Bytes around the record stay.
 ghost use mathlib.Core.Path.{_≡_};
-ghost use mathlib.Core.List.{_∷_, _++_};
+ghost use mathlib.Core.List.{[], _∷_, _++_};
 ghost use Prim.Native.Nat.{_+_, _≤_};
 ghost use lib.ListN.{length};
 ghost use lib.Seq.{sets};
@@ -17,24 +17,43 @@ pub fn signed_word(x: i32) -> u32
     x as u32
 }
 
+// Four bytes one behind the other: all that a record is made of.
+fn put_four(buffer: &mut [u8], at: usize, a: u8, b: u8, c: u8, d: u8)
+    requires { ⌜ at + 4 ≤ length (now buffer) ⌝ }
+    ensures { λ _. ⌜ now (buffer .exit) ≡ sets (now (buffer .entry)) at (a ∷ b ∷ c ∷ d ∷ []) ⌝ }
+{
+    buffer[at] = a;
+    buffer[at + 1] = b;
+    buffer[at + 2] = c;
+    buffer[at + 3] = d;
+}
+
 fn put_word(buffer: &mut [u8], at: usize, x: u32)
     requires { ⌜ at + 4 ≤ length (now buffer) ⌝ }
     ensures { λ _. ⌜ now (buffer .exit) ≡ sets (now (buffer .entry)) at (word x) ⌝ }
 {
-    buffer[at] = (x % 256) as u8;
-    buffer[at + 1] = (x / 256 % 256) as u8;
-    buffer[at + 2] = (x / 65536 % 256) as u8;
-    buffer[at + 3] = (x / 16777216 % 256) as u8;
+    put_four(
+        buffer,
+        at,
+        (x % 256) as u8,
+        (x / 256 % 256) as u8,
+        (x / 65536 % 256) as u8,
+        (x / 16777216 % 256) as u8,
+    );
 }
 
 fn put_head(buffer: &mut [u8], at: usize, kind: u8, desk: u8, number: u16)
     requires { ⌜ at + 4 ≤ length (now buffer) ⌝ }
     ensures { λ _. ⌜ now (buffer .exit) ≡ sets (now (buffer .entry)) at (kind ∷ desk ∷ half number) ⌝ }
 {
-    buffer[at] = kind;
-    buffer[at + 1] = desk;
-    buffer[at + 2] = (number % 256) as u8;
-    buffer[at + 3] = (number / 256 % 256) as u8;
+    put_four(
+        buffer,
+        at,
+        kind,
+        desk,
+        (number % 256) as u8,
+        (number / 256 % 256) as u8,
+    );
 }
 
 pub fn put_record(
@@ -48,7 +67,8 @@ pub fn put_record(
     c: u32,
 )
     requires { ⌜ at + 16 ≤ length (now buffer) ⌝ }
-    ensures { λ _. ⌜ now (buffer .exit) ≡ sets (now (buffer .entry)) at (planRecord kind desk number (word a) (word b) (word c)) ⌝ }
+    ensures { λ _. ⌜ now (buffer .exit)
+        ≡ sets (now (buffer .entry)) at (planRecord kind desk number (word a) (word b) (word c)) ⌝ }
 {
     put_head(buffer, at, kind, desk, number);
     put_word(buffer, at + 4, a);

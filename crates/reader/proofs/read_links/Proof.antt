@@ -14,7 +14,8 @@ use Rattle.rules.specs.declared.Item.the-variants.{Tie}
 use Rattle.reader.specs.Rest.{jobOf}
 use Rattle.reader.specs.Sizes.{LinkTables}
 use Rattle.reader.proofs.Answers.{no-tie}
-use Rattle.reader.proofs.Taken.{Behind, behind-start, behind-room, behind-on, links-length}
+use Rattle.reader.proofs.Tables.{links-length}
+use Rattle.reader.proofs.Taken.{Behind, behind-start, behind-room, behind-on}
 use Rattle.reader.proofs.read_links.Statement.{statement}
 use Rattle.reader.proofs.read_links.Tie as tie
 

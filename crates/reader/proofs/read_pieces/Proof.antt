@@ -12,7 +12,8 @@ use Rattle.rules.specs.declared.Item.the-variants.{Work}
 use Rattle.reader.specs.Rest.{jobOf}
 use Rattle.reader.specs.Sizes.{PieceTables}
 use Rattle.reader.proofs.Answers.{no-work}
-use Rattle.reader.proofs.Taken.{Front, front-start, front-room, front-on, pieces-length}
+use Rattle.reader.proofs.Tables.{pieces-length}
+use Rattle.reader.proofs.Taken.{Front, front-start, front-room, front-on}
 use Rattle.reader.proofs.read_pieces.Statement.{statement}
 use Rattle.reader.proofs.read_pieces.Tie as tie
 

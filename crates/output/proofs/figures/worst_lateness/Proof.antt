@@ -85,10 +85,13 @@ loop-again : tie.Need-loop-again Inv-loop μ-loop
 loop-again c =
     let a = c .before .before .before .before .before .before .before .before .before .before .args in
     let L = c .before .before .before .before .before .loop in
-    let this-piece : toZ w32 (ofZ w32 (c .before .lateness2 .result)) ≡ latenessIn (a .finishes .now) (a .latests .now) (L .i) =
-    toZ-ofZ w32 (c .before .lateness2 .result) (record { sfits = c .before .lateness2 .ok }) ∙ c .before .lateness2 .ensures
+    let this-piece : toZ w32 (ofZ w32 (c .before .lateness2 .result))
+    ≡ latenessIn (a .finishes .now) (a .latests .now) (L .i) =
+    toZ-ofZ w32 (c .before .lateness2 .result) (record { sfits = c .before .lateness2 .ok })
+    ∙ c .before .lateness2 .ensures
     ∙ ap (λ z. latenessOf (getD (a .finishes .now) (L .i) 0) z)
-    (toZ-ofZ w32 (getD (a .latests .now) (L .i) (pos 0)) (record { sfits = c .before .before .lateness-arg4 .given })) in (
+    (toZ-ofZ w32 (getD (a .latests .now) (L .i) (pos 0))
+    (record { sfits = c .before .before .lateness-arg4 .given })) in (
       omega arith,
       omega arith,
       toZ-ofZ w32 (c .later .result) (record { sfits = c .later .ok }) ∙ c .later .ensures
@@ -99,7 +102,8 @@ loop-again c =
 
 returns-2 : tie.Need-returns-2 Inv-loop μ-loop
 returns-2 c =
-    let q : c .before .loop .i ≡ c .before .before .before .before .before .before .args .n = omega arith in rw (← q) (c .before .loop .inv .2)
+    let q : c .before .loop .i ≡ c .before .before .before .before .before .before .args .n = omega arith in
+    rw (← q) (c .before .loop .inv .2)
 
 pub worst-lateness-spec : {M : Type 1} → statement M
 worst-lateness-spec =

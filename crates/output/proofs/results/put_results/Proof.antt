@@ -71,8 +71,11 @@ loop-again : tie.Need-loop-again Inv-loop μ-loop
 loop-again c =
     let a = c .before .before .before .before .before .before .before .before .before .before .before .before .args in
     let L = c .before .before .before .before .before .before .before .before .before .before .loop in
-    let signed = simp (toZ-ofZ w32 (getD (a .latests .now) (L .i) (pos 0)) (record { sfits = c .before .before .before .before .before .before .before .before .signed-word-arg .given })) at (c .before .before .before .before .before .before .before .signed-word .ensures) in
-    let w = results-step (a .desks .now) (a .starts .now) (a .finishes .now) (a .latests .now) (a .buffer .now) (L .buffer) _ (L .i) _
+    let signed = simp (toZ-ofZ w32 (getD (a .latests .now) (L .i) (pos 0))
+    (record { sfits = c .before .before .before .before .before .before .before .before .signed-word-arg .given })) at
+    (c .before .before .before .before .before .before .before .signed-word .ensures) in
+    let w = results-step (a .desks .now) (a .starts .now) (a .finishes .now) (a .latests .now) (a .buffer .now)
+    (L .buffer) _ (L .i) _
     (L .inv .2) signed (c .before .before .put-record .ensures) in
     (omega arith, w .0 ∙ L .inv .1, w .1)
 

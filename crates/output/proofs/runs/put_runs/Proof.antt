@@ -1,33 +1,44 @@
 -- `put_runs` meets its contract: desk by desk, each desk's records right behind those before.
 use Prim.Native.Nat.{_≤_, _-_}
-use mathlib.Core.Path.{_≡_, _∙_}
+use mathlib.Core.Path.{_≡_, refl}
 use native.Mathlib.Omega.{arith}
+use lib.ListN.{getD-replicate}
 use Rattle.output.specs.Written.{AllLogged}
 use Rattle.output.proofs.DeskByDesk.{no-desk-yet, one-desk-more, desk-room}
 use Rattle.output.proofs.runs.put_runs.Statement.{statement}
 use Rattle.output.proofs.runs.put_runs.Tie as tie
-use Rattle.output.proofs.runs.put_runs.Reads as reads
-use Rattle.output.proofs.runs.put_runs.Lts as lts
-use Rattle.output.proofs.runs.put_desk_runs.Reads as put-desk-runs-reads
 
 abbrev Inv-loop : tie.InvT-loop
-Inv-loop count desks pieces froms untils at buffer₀ next₀ desk₀ buffer next desk =
+Inv-loop count desks pieces froms untils at buffer₀ first later next₀ desk₀ buffer next desk =
     (desk ≤ 32) × AllLogged count desks pieces froms untils buffer₀ at desk buffer next
 
 abbrev μ-loop : tie.MeasureT-loop
-μ-loop count desks pieces froms untils at buffer₀ next₀ desk₀ buffer next desk = 32 - desk
+μ-loop count desks pieces froms untils at buffer₀ first later next₀ desk₀ buffer next desk = 32 - desk
+
+chain-runs-requires : tie.Need-chain-runs-requires Inv-loop μ-loop
+chain-runs-requires c κs = (
+  c .before .before .before .pre .0,
+  record { first-sized = refl; later-sized = refl; cleared = λ d l. getD-replicate 256 d 0 0 l },
+)
 
 loop-holds : tie.Need-loop-holds Inv-loop μ-loop
 loop-holds c =
-    let a = c .before .args in
-    (omega arith, no-desk-yet (a .count) (a .desks .now) (a .pieces .now) (a .froms .now) (a .untils .now) (a .buffer .now) (a .at))
+    let a = c .before .before .before .before .args in (
+      omega arith,
+      no-desk-yet (a .count) (a .desks .now) (a .pieces .now) (a .froms .now) (a .untils .now) (a .buffer .now) (a .at),
+    )
 
 put-desk-runs-requires : tie.Need-put-desk-runs-requires Inv-loop μ-loop
 put-desk-runs-requires c κs =
-    let a = c .before .before .before .before .args in
-    let L = c .before .before .loop in
-    let p = c .before .before .before .before .pre in
-    (p .0, omega (arith, desk-room (a .count) (a .desks .now) (a .pieces .now) (a .froms .now) (a .untils .now) (L .desk) 32 (omega arith), L .inv .1 .past, L .inv .1 .same, p .1))
+    let start = c .before .before .before .before .before .before .before .before .before in
+    let a = start .args in
+    let L = c .before .before .before .before .loop in
+    let room = desk-room (a .count) (a .desks .now) (a .pieces .now) (a .froms .now) (a .untils .now) (L .desk) 32
+    (omega arith) in
+    let all = L .inv .1 in (
+      (start .pre .0, c .before .before .before .before .before .chain-runs .ensures),
+      omega (arith, room, all .past, all .same, start .pre .1),
+    )
 
 add-desk : tie.Need-add-desk Inv-loop μ-loop
 add-desk c = omega arith
@@ -37,11 +48,11 @@ loop-less c = omega arith
 
 loop-again : tie.Need-loop-again Inv-loop μ-loop
 loop-again c =
-    let a = c .before .before .before .before .before .before .before .args in
-    let L = c .before .before .before .before .before .loop in (
+    let a = c .before .before .before .before .before .before .before .before .before .before .before .before .args in
+    let L = c .before .before .before .before .before .before .before .loop in (
       omega arith,
-      one-desk-more (a .count) (a .desks .now) (a .pieces .now) (a .froms .now) (a .untils .now) (a .buffer .now) (a .at) (L .desk) (L .buffer) (L .next) _ _ (L .inv .1)
-          (c .before .before .put-desk-runs .ensures),
+      one-desk-more (a .count) (a .desks .now) (a .pieces .now) (a .froms .now) (a .untils .now) (a .buffer .now) (a .at)
+          (L .desk) (L .buffer) (L .next) _ _ (L .inv .1) (c .before .before .put-desk-runs .ensures),
     )
 
 same-length : tie.Need-same-length Inv-loop μ-loop
@@ -57,6 +68,7 @@ put-runs-spec =
     (tie.spec
     Inv-loop
     μ-loop
+    chain-runs-requires
     loop-holds
     put-desk-runs-requires
     add-desk

@@ -34,7 +34,8 @@ same-length c = search needs
 
 returns : tie.Need-returns
 returns c =
-    let a = c .before .before .before .before .before .before .before .before .before .before .before .before .before .before .before .before .before .args in
+    let last = c .before .before .before .before .before .before .before .before in
+    let a = last .before .before .before .before .before .before .before .before .before .args in
     cc (record-in-parts (a .buffer .now) (a .at) (a .kind) (a .desk) (a .number) (a .a) (a .b) (a .c))
 
 pub put-record-spec : {M : Type 1} → statement M

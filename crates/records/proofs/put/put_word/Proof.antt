@@ -1,68 +1,39 @@
--- `put_word` meets its contract: four stores one behind the other.
+-- `put_word` meets its contract: its four bytes are the number's, low byte first.
 use borrow.Author.Needs.{needs}
-use native.Mathlib.Omega.{arith}
-use native.Mathlib.Numerals.{towards-suc}
-use lib.ListN.{length-set}
 use Rattle.rules.specs.Bytes.{word}
 use Rattle.records.proofs.put.put_word.Statement.{statement}
 use Rattle.records.proofs.put.put_word.Tie as tie
-use Rattle.records.proofs.put.put_word.Reads as reads
-use Rattle.records.proofs.put.put_word.Lts as lts
 
-cast-buffer : tie.Need-cast-buffer
-cast-buffer c = search needs
+cast-put-four : tie.Need-cast-put-four
+cast-put-four c = search needs
 
-slice-write-buffer : tie.Need-slice-write-buffer
-slice-write-buffer c = search needs
+cast-put-four-2 : tie.Need-cast-put-four-2
+cast-put-four-2 c = search needs
 
-cast-buffer-2 : tie.Need-cast-buffer-2
-cast-buffer-2 c = search needs
+cast-put-four-3 : tie.Need-cast-put-four-3
+cast-put-four-3 c = search needs
 
-add-buffer : tie.Need-add-buffer
-add-buffer c = search needs
+cast-put-four-4 : tie.Need-cast-put-four-4
+cast-put-four-4 c = search needs
 
-slice-write-buffer-2 : tie.Need-slice-write-buffer-2
-slice-write-buffer-2 c = simp length-set (omega arith)
-
-cast-buffer-3 : tie.Need-cast-buffer-3
-cast-buffer-3 c = search needs
-
-add-buffer-2 : tie.Need-add-buffer-2
-add-buffer-2 c = search needs
-
-slice-write-buffer-3 : tie.Need-slice-write-buffer-3
-slice-write-buffer-3 c = simp length-set (omega arith)
-
-cast-buffer-4 : tie.Need-cast-buffer-4
-cast-buffer-4 c = search needs
-
-add-buffer-3 : tie.Need-add-buffer-3
-add-buffer-3 c = search needs
-
-slice-write-buffer-4 : tie.Need-slice-write-buffer-4
-slice-write-buffer-4 c = simp length-set (omega arith)
+put-four-requires : tie.Need-put-four-requires
+put-four-requires c κs = search needs
 
 same-length : tie.Need-same-length
 same-length c = search needs
 
 returns : tie.Need-returns
 unfolding word
-returns c = simp towards-suc
+returns c = search needs
 
 pub put-word-spec : {M : Type 1} → statement M
 put-word-spec =
     tie.close
     (tie.spec
-    cast-buffer
-    slice-write-buffer
-    cast-buffer-2
-    add-buffer
-    slice-write-buffer-2
-    cast-buffer-3
-    add-buffer-2
-    slice-write-buffer-3
-    cast-buffer-4
-    add-buffer-3
-    slice-write-buffer-4
+    cast-put-four
+    cast-put-four-2
+    cast-put-four-3
+    cast-put-four-4
+    put-four-requires
     same-length
     returns)
