@@ -1,0 +1,2 @@
+-- What a list of entries holds at a place.
+pub mod Lent
