@@ -1,2 +1,2 @@
--- What a list of entries holds at a place.
+-- The words of a lent list of entries: what it holds, and its order.
 pub mod Lent
