@@ -4,7 +4,7 @@ use Prim.Native.Nat.{ℕ, _≤_, _<_}
 use mathlib.Core.Bool.{Bool}
 use mathlib.Core.List.{List, [], _∷_, map, List·Memᴰ as Mem, List·Memᴰ·head as here, List·Memᴰ·tail as there}
 use mathlib.Core.Option.{none}
-use mathlib.Core.Path.{_≡_, refl, sym, ap, _∙_, subst, fun-ext}
+use mathlib.Core.Path.{_≡_, refl, sym, ap, ap₂, _∙_, subst, fun-ext}
 use native.Mathlib.Omega.{arith}
 use lib.Dec.{eqb}
 use lib.IntN.{ℤ, pos, negsuc, _-ℤ_, natAbs}
@@ -21,13 +21,15 @@ use Rattle.rules.specs.Entries.{Entry, entry, entries}
 use Rattle.rules.specs.Blocks.{inOrder, blockEnd, cutInOrder, cut, blockWorked}
 use Rattle.rules.specs.BlockSheet.{blocks, blockRuns, blockNumbers}
 use Rattle.laws.proofs.Words.{map-same, mem-row, mem-below, mem-map, below-mem}
-use Rattle.laws.proofs.Joined.{map-twice}
+use Rattle.laws.proofs.Joined.{map-twice, mem-of-map}
 use Rattle.laws.proofs.Sound.{place-mem}
 use Rattle.laws.proofs.Signed.{up, dn, _≼_, below-zero, below-zero-is}
 use Rattle.laws.proofs.Latest.{latest-least, latest-most}
 use Rattle.laws.proofs.Hours.{always-open}
 use Rattle.laws.proofs.Slots.{mem-deskPieces}
 use Rattle.laws.proofs.Finishing.{horizon-most}
+use Rattle.theory.proofs.Order.{mem-sorted, sorted-length}
+use Rattle.theory.proofs.BlockMethod.{waits, in-order}
 use Rattle.theory.proofs.Turns.{turns-of}
 use Rattle.theory.proofs.RunOrder.{runs-true, runs-within}
 use Rattle.demands.proofs.OneDesk.{desk-hours}
@@ -40,10 +42,10 @@ use Rattle.method.proofs.OfDesk.{entries-distinct, entries-links, works-early, 
 use Rattle.method.proofs.Late.{runLate, worst-of-runs}
 use Rattle.blocksteps.specs.Listed.{entryIn, tiedIn, Listed}
 use Rattle.ready.proofs.FromTables.{raised-most}
-use Rattle.blocks.specs.Ordered.{sortedIn, onDesk, Lists}
+use Rattle.blocks.specs.Ordered.{onDesk, deskList, Lists}
 use Rattle.blocks.specs.Rows.{rowOf, lateIn, Dated}
 use Rattle.blocks.specs.Sheet.{Entered, sheetRow}
-use Rattle.blocks.proofs.Sorting.{sorted-mem, sorted-count, desk-mem, sorted-entries}
+use Rattle.blocks.proofs.Sorting.{desk-mem}
 
 keep-same : (p q : ℕ → Bool) (l : List ℕ) → ((i : ℕ) → Mem i l → p i ≡ q i) → keep p l ≡ keep q l
 unfolding keep
@@ -63,7 +65,7 @@ module _ (J : Job) (n m : ℕ) (desks durations befores afters ready : List ℕ)
   own = onDesk desks d 0 n
 
   abbrev list : List ℕ
-  list = sortedIn ready own
+  list = deskList ready durations latests desks d n
 
   abbrev entryOf : ℕ → Entry
   entryOf = entryIn ready durations latests
@@ -87,18 +89,44 @@ module _ (J : Job) (n m : ℕ) (desks durations befores afters ready : List ℕ)
   unfolding entries
   own-entries = map-same entryOf (entry J) own (λ i k. entry-same i (own-small i k)) ∙ ap (map (entry J)) (sym own-pieces)
 
+  -- The entries in order, each of which is that of its number.
+  abbrev sorted-own : List Entry
+  sorted-own = inOrder (map entryOf own)
+
+  from-own : (x : Entry) → Mem x sorted-own → (i : ℕ) × Mem i own × (x ≡ entryOf i)
+  from-own x k =
+      mem-of-map entryOf own x
+      (mem-sorted waits (map entryOf own) x (subst (λ (l : List Entry). Mem x l) (in-order (map entryOf own)) k))
+
   listed-entries : map entryOf list ≡ inOrder (entries J d)
-  listed-entries = sym (sorted-entries ready durations latests own) ∙ ap inOrder own-entries
+  unfolding deskList entryIn
+  listed-entries =
+      again sorted-own
+      (λ x k. let w = from-own x k in ap entryOf (ap (λ (y : Entry). y .number) (w .2)) ∙ sym (w .2))
+      ∙ ap inOrder own-entries
+    where
+      again : (l : List Entry) → ((x : Entry) → Mem x l → entryOf (x .number) ≡ x)
+          → map entryOf (map (λ x. x .number) l) ≡ l
+      again [] h = refl
+      again (x ∷ l) h = ap₂ (λ (y : Entry) (r : List Entry). y ∷ r) (h x (here refl)) (again l (λ y k. h y (there k)))
 
   list-count : length list ≡ length (deskPieces J d)
-  list-count = sorted-count ready own ∙ ap length (sym own-pieces)
+  unfolding deskList
+  list-count =
+      length-map sorted-own (λ x. x .number) ∙ ap length (in-order (map entryOf own))
+      ∙ sorted-length waits (map entryOf own) ∙ length-map own entryOf ∙ ap length (sym own-pieces)
 
   entries-count : length (entries J d) ≡ length (deskPieces J d)
   unfolding entries
   entries-count = length-map (deskPieces J d) (entry J)
 
   list-small : (i : ℕ) → Mem i list → i < n
-  list-small i k = own-small i (sorted-mem ready own i k)
+  unfolding deskList entryIn
+  list-small i k =
+      let e = mem-of-map (λ x. x .number) sorted-own i k in
+      let w = from-own (e .0) (e .1) in
+      let q : i ≡ w .0 = e .2 ∙ ap (λ (y : Entry). y .number) (w .2) in
+      subst (λ (j : ℕ). j < n) (sym q) (own-small (w .0) (w .1))
 
   inside : (i : ℕ) → i < n → i < pieceCount J
   inside i h = omega (arith, e .count)

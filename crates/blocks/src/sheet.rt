@@ -51,7 +51,7 @@ pub fn desk_sheet(
 {
     let mut ids = [0u16; 256];
     let mut marks = [0u8; 256];
-    let count = desk_order(n, desk, desks, ready, &mut ids);
+    let count = desk_order(n, desk, desks, ready, durations, latests, &mut ids);
     let blocks = first_blocks(&ids[..count], ready, durations, counts, starts, ends);
     let runs = cut_set(
         m,

@@ -21,13 +21,13 @@ array-share-prefix-ids c = search needs
 slice-aggregate-first-blocks : tie.Need-slice-aggregate-first-blocks
 slice-aggregate-first-blocks c = let o = c .before .desk-order in
     let l = o .ensures in
-    sym (length-take-le (o .result) (o .last .1 .1 .1 .1 .0) (omega (arith, l .sized, l .within)))
+    sym (length-take-le (o .result) (o .last .1 .1 .1 .1 .1 .1 .0) (omega (arith, l .sized, l .within)))
 
 first-blocks-requires : tie.Need-first-blocks-requires
 first-blocks-requires c κs = let s = c .before .before .before .before .before .before in
     let o = c .before .before .before .before .desk-order in
     let l = o .ensures in
-    let ids = o .last .1 .1 .1 .1 .0 in
+    let ids = o .last .1 .1 .1 .1 .1 .1 .0 in
     let fits : o .result ≤ length ids = omega (arith, l .sized, l .within) in
     let w = s .pre .0 in
     (sheet-listed (w .0) _ _ _ _ _ _ _ _ (w .1) (s .args .desk) ids (o .result) l, s .pre .1 .0)
@@ -38,13 +38,13 @@ array-borrow-prefix-ids c = search needs
 slice-aggregate-cut-set : tie.Need-slice-aggregate-cut-set
 slice-aggregate-cut-set c = let o = c .before .before .before .before .before .before .desk-order in
     let l = o .ensures in
-    sym (length-take-le (o .result) (o .last .1 .1 .1 .1 .0) (omega (arith, l .sized, l .within)))
+    sym (length-take-le (o .result) (o .last .1 .1 .1 .1 .1 .1 .0) (omega (arith, l .sized, l .within)))
 
 cut-set-requires : tie.Need-cut-set-requires
 cut-set-requires c κs = let s = c .before .before .before .before .before .before .before .before .before .before .before .before in
     let o = c .before .before .before .before .before .before .before .before .before .before .desk-order in
     let l = o .ensures in
-    let ids = o .last .1 .1 .1 .1 .0 in
+    let ids = o .last .1 .1 .1 .1 .1 .1 .0 in
     let fits : o .result ≤ length ids = omega (arith, l .sized, l .within) in
     let sized : length (take (o .result) ids) ≡ o .result = length-take-le (o .result) ids fits in
     let w = s .pre .0 in
@@ -61,7 +61,7 @@ unfolding boardIn
 worst-lateness-requires c κs = let s = c .before .before .before .before .before .before .before .before .before .before .before .before .before .before .before .before in
     let o = c .before .before .before .before .before .before .before .before .before .before .before .before .before .before .desk-order in
     let l = o .ensures in
-    let ids = o .last .1 .1 .1 .1 .0 in
+    let ids = o .last .1 .1 .1 .1 .1 .1 .0 in
     let fits : o .result ≤ length ids = omega (arith, l .sized, l .within) in
     let sized : length (take (o .result) ids) ≡ o .result = length-take-le (o .result) ids fits in
     let w = s .pre .0 in
@@ -75,7 +75,7 @@ unfolding boardIn
 returns c J e = let s = c .before .before .before .before .before .before .before .before .before .before .before .before .before .before .before .before .before in
     let o = c .before .before .before .before .before .before .before .before .before .before .before .before .before .before .before .desk-order in
     let l = o .ensures in
-    let ids = o .last .1 .1 .1 .1 .0 in
+    let ids = o .last .1 .1 .1 .1 .1 .1 .0 in
     let fits : o .result ≤ length ids = omega (arith, l .sized, l .within) in
     let sized : length (take (o .result) ids) ≡ o .result = length-take-le (o .result) ids fits in
     let k = c .before .before .before .before .cut-set in

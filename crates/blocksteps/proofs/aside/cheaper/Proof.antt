@@ -22,7 +22,7 @@ mul-costs-less-2 : tie.Need-mul-costs-less-2
 mul-costs-less-2 c = search needs
 
 element-copy-out-costs-less-2 : tie.Need-element-copy-out-costs-less-2
-element-copy-out-costs-less-2 c = search needs
+element-copy-out-costs-less-2 c = search (needs, c .before .before .pre .1 (c .before .if1 .left))
 
 costs-less-requires : tie.Need-costs-less-requires
 costs-less-requires c κs = search needs
