@@ -12,7 +12,7 @@ ghost use Rattle.rules.specs.Reading.{pieceFault, linkFault, zeroFault, orderFa
 ghost use Rattle.judge.specs.Says.{Says};
 
 // The values of a piece: 5, 6, 7.
-fn piece_fault(p: Piece) -> u8
+pub fn piece_fault(p: Piece) -> u8
     ensures { λ n. ⌜ n ≡ pieceFault p ⌝ }
 {
     if 31 < p.desk {
@@ -34,7 +34,7 @@ fn piece_fault(p: Piece) -> u8
 }
 
 // The values of a link with so many pieces read before it: 9, 10.
-fn link_fault(pieces: usize, l: Link) -> u8
+pub fn link_fault(pieces: usize, l: Link) -> u8
     ensures { λ n. ⌜ n ≡ linkFault pieces l ⌝ }
 {
     let before = l.before as usize;
@@ -52,7 +52,7 @@ fn link_fault(pieces: usize, l: Link) -> u8
 }
 
 // The bytes of a piece's record that must be zero: 8.
-fn piece_zero_fault(r: &[u8]) -> u8
+pub fn piece_zero_fault(r: &[u8]) -> u8
     requires { ⌜ length (now r) ≡ 16 ⌝ }
     ensures { λ n. ⌜ n ≡ zeroFault ofPiece (now (r .entry)) ⌝ }
 {
@@ -63,7 +63,7 @@ fn piece_zero_fault(r: &[u8]) -> u8
 }
 
 // The bytes of a link's record that must be zero: 8.
-fn link_zero_fault(r: &[u8]) -> u8
+pub fn link_zero_fault(r: &[u8]) -> u8
     requires { ⌜ length (now r) ≡ 16 ⌝ }
     ensures { λ n. ⌜ n ≡ zeroFault ofLink (now (r .entry)) ⌝ }
 {
@@ -80,7 +80,7 @@ fn link_zero_fault(r: &[u8]) -> u8
 }
 
 // A piece's place in the file, behind so many pieces and links: 3, 4.
-fn piece_order_fault(pieces: usize, links: usize) -> u8
+pub fn piece_order_fault(pieces: usize, links: usize) -> u8
     ensures { λ n. ⌜ Says pieces links n (orderFault ofPiece) ⌝ }
 {
     if 0 < links {
@@ -93,7 +93,7 @@ fn piece_order_fault(pieces: usize, links: usize) -> u8
 }
 
 // A link's place in the file, behind so many links: 4.
-fn link_order_fault(links: usize) -> u8
+pub fn link_order_fault(links: usize) -> u8
     ensures { λ n. ⌜ ((J : Job) → length (J .links) ≡ links → n ≡ orderFault ofLink J) ⌝ }
 {
     if 1024 <= links {

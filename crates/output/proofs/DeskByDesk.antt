@@ -1,12 +1,11 @@
 -- The run records of all desks, desk by desk, each desk's right behind those of the desks before it.
 use Prim.Native.Nat.{ℕ, zero, suc, _+_, _-_, _≤_, _<_}
-use mathlib.Core.List.{List, [], _∷_, _++_, map}
+use mathlib.Core.List.{List, [], _++_}
 use mathlib.Core.Path.{_≡_, refl, sym, ap, _∙_}
 use native.Mathlib.Omega.{arith}
 use native.Mathlib.Numerals.{add-one}
 use lib.ListN.{length, length-append}
 use lib.Seq.{sets}
-use Rattle.rules.specs.Words.{below, joined}
 use Rattle.laws.proofs.Joined.{joined-more}
 use Rattle.records.proofs.Stores.{sets-on}
 use Rattle.output.specs.Written.{deskRunsIn, runsIn, Logged, AllLogged}

@@ -1,22 +1,21 @@
 -- The figures grow with the pieces: with one piece more, the largest finish is the greater of what it was and that
 -- piece's, and so is the worst lateness.
-use Prim.Native.Nat.{ℕ, zero, suc, _+_, _^_, _≤_, _<_}
-use mathlib.Core.Bool.{true, false}
-use mathlib.Core.List.{List, [], _∷_, map}
-use mathlib.Core.Path.{_≡_, refl, sym, ap, _∙_}
+use Prim.Native.Nat.{ℕ, zero, suc, _+_, _≤_, _<_}
+use mathlib.Core.List.{[], map}
+use mathlib.Core.Path.{_≡_, refl, ap}
 use native.Mathlib.Nat.{le-antisymm}
 use native.Mathlib.Numerals.{add-one}
 use native.Mathlib.Omega.{arith}
 use borrow.Author.Tests.{ltb-true, ltb-false}
 use lib.Dec.{ltb}
-use lib.IntN.{ℤ, pos, negsuc, _-ℤ_}
+use lib.IntN.{ℤ, pos, negsuc}
 use lib.Signed.{mag}
 use mir.Syntax.{w32}
 use mir.Val.{SFits}
 use Rattle.rules.specs.Words.{greater, greatest, greaterZ, greatestZ, worstOf, row, below}
 use Rattle.laws.proofs.Words.{by-test, mem-below, below-mem, greater-left, greater-right, greater-least}
-use Rattle.laws.proofs.Words.{greatest-start, greatest-of, greatest-within}
-use Rattle.laws.proofs.Signed.{up, dn, _≼_, same, minus, greaterZ-left, greaterZ-right, greaterZ-least}
+use Rattle.laws.proofs.Words.{greatest-of, greatest-within}
+use Rattle.laws.proofs.Signed.{_≼_, same, greaterZ-left, greaterZ-right, greaterZ-least}
 use Rattle.laws.proofs.Signed.{greatestZ-start, greatestZ-mem, greatestZ-least}
 use Rattle.laws.proofs.Words.{mem-map, mem-row, row-mem}
 use Rattle.laws.proofs.Joined.{mem-of-map}

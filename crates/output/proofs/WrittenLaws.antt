@@ -1,7 +1,7 @@
 -- Records written one behind the other: each stands 16 bytes behind the one before, and a record more is one store more.
 use Prim.Native.Nat.{ℕ, zero, suc, _+_, _-_, _*_, _≤_, _<_}
-use mathlib.Core.Bool.{Bool, true, false}
-use mathlib.Core.List.{List, [], _∷_, _++_, map}
+use mathlib.Core.Bool.{true, false}
+use mathlib.Core.List.{List, [], _++_, map}
 use mathlib.Core.Path.{_≡_, refl, sym, ap, _∙_}
 use native.Mathlib.Omega.{arith}
 use native.Mathlib.Numerals.{add-one}
@@ -16,7 +16,7 @@ use Rattle.laws.proofs.Words.{by-test, length-below}
 use Rattle.laws.proofs.Joined.{joined-more, kept-more, not-kept-more, map-twice, mem-of-map}
 use Rattle.laws.proofs.Bytes.{word-sized, signed-sized, record-sized, run-sized, records-sized}
 use Rattle.records.proofs.Stores.{sets-on}
-use Rattle.output.specs.Written.{resultIn, resultsIn, deskRunsIn, runsIn, Logged}
+use Rattle.output.specs.Written.{resultIn, resultsIn, deskRunsIn, Logged}
 
 module _ (desks starts finishes : List ℕ) (latests : List ℤ) where
   pub result-is : (i : ℕ) → resultIn desks starts finishes latests i

@@ -1,16 +1,14 @@
 -- The bytes of result and run records in terms of the tables of a finished plan: for each piece its desk, start, finish
 -- and latest moment; for each run of the log its piece, its first slot and one past its last.
 use Prim.Native.Nat.{ℕ, _+_, _≤_, _<_}
-use mathlib.Core.Bool.{true}
 use mathlib.Core.List.{List, map}
 use mathlib.Core.Path.{_≡_}
 use lib.IntN.{ℤ, pos}
 use lib.ListN.{length, getD}
 use lib.Seq.{sets}
-use lib.Dec.{eqb}
-use Rattle.rules.specs.Words.{keep, below, joined}
+use Rattle.rules.specs.Words.{below, joined}
 use Rattle.rules.specs.Bytes.{word, signedWord, planRecord, runRecord}
-use Rattle.steps.specs.Log.{runAt, loggedRuns}
+use Rattle.steps.specs.Log.{loggedRuns}
 
 unfoldable pub resultIn : List ℕ → List ℕ → List ℕ → List ℤ → ℕ → List ℕ
 unfolding planRecord word signedWord

@@ -1,7 +1,7 @@
 -- The first record of a kind, looked for one by one: what is left to look at gives the whole answer.
 use Prim.Native.Nat.{ℕ, zero, suc, _+_, _-_, _≤_, _<_}
 use mathlib.Core.Bool.{Bool, true, false}
-use mathlib.Core.Path.{_≡_, refl, sym, ap, _∙_}
+use mathlib.Core.Path.{_≡_, sym}
 use native.Mathlib.Omega.{arith}
 use Rattle.rules.specs.Words.{when}
 use Rattle.rules.specs.DeskRuns.{firstFrom}

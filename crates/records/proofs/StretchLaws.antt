@@ -1,12 +1,11 @@
 -- The stretch of a desk's runs, once its first record is found or there is none.
-use Prim.Native.Nat.{ℕ, _+_, _-_, _*_, _≤_, _<_}
+use Prim.Native.Nat.{ℕ, _*_, _≤_, _<_}
 use mathlib.Core.List.{List}
-use mathlib.Core.Path.{_≡_, refl, sym, ap, _∙_}
+use mathlib.Core.Path.{_≡_}
 use borrow.Author.Tests.{lt-ltb, le-ltb}
 use Rattle.rules.specs.Words.{when}
 use Rattle.rules.specs.File.{wholeRecords}
 use Rattle.rules.specs.DeskRuns.{firstRun, pastLastRun, stretchFrom, stretchEnd}
-use Rattle.laws.proofs.Words.{when-true, when-false}
 
 module _ (s : List ℕ) (d k : ℕ) (found : k ≡ firstRun s d) where
   module _ (h : k < wholeRecords s) where

@@ -3,8 +3,6 @@ use borrow.Author.Tests.{lt-ltb, le-ltb}
 use Rattle.rules.specs.Words.{when, greater}
 use Rattle.output.proofs.figures.larger.Statement.{statement}
 use Rattle.output.proofs.figures.larger.Tie as tie
-use Rattle.output.proofs.figures.larger.Reads as reads
-use Rattle.output.proofs.figures.larger.Lts as lts
 
 returns : tie.Need-returns
 unfolding greater

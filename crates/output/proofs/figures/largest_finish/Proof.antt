@@ -1,6 +1,6 @@
 -- `largest_finish` meets its contract: with one piece more the largest is the greater of two.
 use Prim.Native.Nat.{_≤_, _-_}
-use mathlib.Core.Path.{_≡_, refl, sym, ap, _∙_}
+use mathlib.Core.Path.{_≡_, refl, ap, _∙_}
 use mathlib.Core.List.{map}
 use native.Mathlib.Omega.{arith}
 use borrow.Author.Needs.{needs}
@@ -9,9 +9,6 @@ use Rattle.rules.specs.Words.{greater, greatest, below}
 use Rattle.output.proofs.FigureLaws.{largest-more}
 use Rattle.output.proofs.figures.largest_finish.Statement.{statement}
 use Rattle.output.proofs.figures.largest_finish.Tie as tie
-use Rattle.output.proofs.figures.largest_finish.Reads as reads
-use Rattle.output.proofs.figures.largest_finish.Lts as lts
-use Rattle.output.proofs.figures.larger.Reads as larger-reads
 
 abbrev Inv-loop : tie.InvT-loop
 Inv-loop n finishes end₀ i₀ end i = (i ≤ n) × (end ≡ greatest 0 (map (λ k. getD finishes k 0) (below i)))

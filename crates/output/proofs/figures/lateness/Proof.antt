@@ -1,5 +1,4 @@
 -- `lateness` meets its contract: the difference fits 32 bits and is exact.
-use mathlib.Core.Path.{_≡_, refl}
 use native.Mathlib.Omega.{arith}
 use mir.Syntax.{w32}
 use mir.Facts.{toZ-ofZ, toZ-pos}
@@ -7,8 +6,6 @@ use Rattle.output.proofs.FigureLaws.{late-fits}
 use borrow.Author.Needs.{needs}
 use Rattle.output.proofs.figures.lateness.Statement.{statement}
 use Rattle.output.proofs.figures.lateness.Tie as tie
-use Rattle.output.proofs.figures.lateness.Reads as reads
-use Rattle.output.proofs.figures.lateness.Lts as lts
 
 cast-result : tie.Need-cast-result
 cast-result c = search needs

@@ -1,11 +1,8 @@
 -- `later` meets its contract: the test is the definition's.
-use mir.Syntax.{w32}
 use mir.Facts.{toZ-ofZ}
 use Rattle.rules.specs.Words.{when, greaterZ}
 use Rattle.output.proofs.figures.later.Statement.{statement}
 use Rattle.output.proofs.figures.later.Tie as tie
-use Rattle.output.proofs.figures.later.Reads as reads
-use Rattle.output.proofs.figures.later.Lts as lts
 
 returns : tie.Need-returns
 unfolding greaterZ

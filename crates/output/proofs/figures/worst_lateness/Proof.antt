@@ -1,6 +1,6 @@
 -- `worst_lateness` meets its contract: with one piece more the worst is the greater of two.
 use Prim.Native.Nat.{_≤_, _-_}
-use mathlib.Core.Path.{_≡_, refl, sym, ap, _∙_}
+use mathlib.Core.Path.{_≡_, sym, ap, _∙_}
 use mathlib.Core.List.{map}
 use native.Mathlib.Omega.{arith}
 use borrow.Author.Needs.{needs}
@@ -14,10 +14,6 @@ use Rattle.output.specs.Late.{latenessOf, latenessIn}
 use Rattle.output.proofs.FigureLaws.{worst-one, worst-more}
 use Rattle.output.proofs.figures.worst_lateness.Statement.{statement}
 use Rattle.output.proofs.figures.worst_lateness.Tie as tie
-use Rattle.output.proofs.figures.worst_lateness.Reads as reads
-use Rattle.output.proofs.figures.worst_lateness.Lts as lts
-use Rattle.output.proofs.figures.lateness.Reads as lateness-reads
-use Rattle.output.proofs.figures.later.Reads as later-reads
 
 abbrev Inv-loop : tie.InvT-loop
 Inv-loop n finishes latests worst₀ i₀ worst i =

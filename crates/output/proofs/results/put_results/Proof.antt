@@ -1,6 +1,6 @@
 -- `put_results` meets its contract: each record is stored right behind the ones before it.
-use Prim.Native.Nat.{_≤_, _-_, _*_}
-use mathlib.Core.Path.{_≡_, refl, sym, ap, _∙_}
+use Prim.Native.Nat.{_≤_, _-_}
+use mathlib.Core.Path.{_≡_, refl, _∙_}
 use native.Mathlib.Omega.{arith}
 use borrow.Author.Needs.{needs}
 use lib.IntN.{pos}
@@ -12,10 +12,6 @@ use Rattle.output.specs.Written.{resultsIn}
 use Rattle.output.proofs.WrittenLaws.{results-step}
 use Rattle.output.proofs.results.put_results.Statement.{statement}
 use Rattle.output.proofs.results.put_results.Tie as tie
-use Rattle.output.proofs.results.put_results.Reads as reads
-use Rattle.output.proofs.results.put_results.Lts as lts
-use Rattle.records.proofs.put.put_record.Reads as put-record-reads
-use Rattle.records.proofs.put.signed_word.Reads as signed-word-reads
 
 abbrev Inv-loop : tie.InvT-loop
 Inv-loop n desks starts finishes latests buffer₀ i₀ buffer i =

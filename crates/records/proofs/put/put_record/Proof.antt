@@ -3,10 +3,6 @@ use borrow.Author.Needs.{needs}
 use Rattle.records.proofs.Stores.{record-in-parts}
 use Rattle.records.proofs.put.put_record.Statement.{statement}
 use Rattle.records.proofs.put.put_record.Tie as tie
-use Rattle.records.proofs.put.put_record.Reads as reads
-use Rattle.records.proofs.put.put_record.Lts as lts
-use Rattle.records.proofs.put.put_head.Reads as put-head-reads
-use Rattle.records.proofs.put.put_word.Reads as put-word-reads
 
 put-head-requires : tie.Need-put-head-requires
 put-head-requires c κs = search needs
@@ -34,9 +30,12 @@ same-length c = search needs
 
 returns : tie.Need-returns
 returns c =
-    let last = c .before .before .before .before .before .before .before .before in
-    let a = last .before .before .before .before .before .before .before .before .before .args in
-    cc (record-in-parts (a .buffer .now) (a .at) (a .kind) (a .desk) (a .number) (a .a) (a .b) (a .c))
+    let second = c .before .before .before .before .before .before in
+    let head = second .before .before .before .before .before .before .before .before in
+    let a = head .before .before .before .args in
+    record-in-parts (a .buffer .now) (a .at) (a .kind) (a .desk) (a .number) (a .a) (a .b) (a .c) (head .put-head .ensures)
+    (second .before .before .before .before .put-word .ensures) (second .put-word2 .ensures)
+    (c .before .before .put-word3 .ensures)
 
 pub put-record-spec : {M : Type 1} → statement M
 put-record-spec =

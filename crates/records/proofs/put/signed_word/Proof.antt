@@ -1,17 +1,13 @@
 -- `signed_word` meets its contract: below zero the word is counted down from 4,294,967,295.
-use mathlib.Core.Path.{_≡_, refl, ap}
 use native.Mathlib.Omega.{arith}
-use Prim.Native.Nat.{_<_, _^_}
-use lib.IntN.{pos, negsuc}
+use lib.IntN.{pos}
 use mir.Syntax.{w32}
 use mir.Val.{SFits}
 use mir.Facts.{toZ-ofZ}
-use Rattle.rules.specs.Bytes.{word, signedWord}
-use Rattle.records.proofs.TwosComplement.{Below, negative, from-minus-one, Above, not-negative}
+use Rattle.rules.specs.Bytes.{signedWord}
+use Rattle.records.proofs.TwosComplement.{negative, from-minus-one, not-negative}
 use Rattle.records.proofs.put.signed_word.Statement.{statement}
 use Rattle.records.proofs.put.signed_word.Tie as tie
-use Rattle.records.proofs.put.signed_word.Reads as reads
-use Rattle.records.proofs.put.signed_word.Lts as lts
 
 sub-result : tie.Need-sub-result
 sub-result c =

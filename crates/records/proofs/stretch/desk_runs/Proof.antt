@@ -1,13 +1,10 @@
 -- `desk_runs` meets its contract: the part between the two ends of the stretch.
-use mathlib.Core.Path.{_≡_, refl}
+use mathlib.Core.Path.{refl}
 use native.Mathlib.Omega.{arith}
 use Rattle.rules.specs.DeskRuns.{stretch}
 use borrow.Author.Needs.{needs}
 use Rattle.records.proofs.stretch.desk_runs.Statement.{statement}
 use Rattle.records.proofs.stretch.desk_runs.Tie as tie
-use Rattle.records.proofs.stretch.desk_runs.Reads as reads
-use Rattle.records.proofs.stretch.desk_runs.Lts as lts
-use Rattle.records.proofs.stretch.stretch_of.Reads as stretch-of-reads
 
 stretch-of-requires : tie.Need-stretch-of-requires
 stretch-of-requires c κs = search needs

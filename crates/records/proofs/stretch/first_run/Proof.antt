@@ -7,9 +7,6 @@ use Rattle.rules.specs.DeskRuns.{isRunOf, firstFrom, firstRun}
 use Rattle.records.proofs.FirstFrom.{first-here, first-later, first-nowhere}
 use Rattle.records.proofs.stretch.first_run.Statement.{statement}
 use Rattle.records.proofs.stretch.first_run.Tie as tie
-use Rattle.records.proofs.stretch.first_run.Reads as reads
-use Rattle.records.proofs.stretch.first_run.Lts as lts
-use Rattle.records.proofs.stretch.is_run_of.Reads as is-run-of-reads
 
 abbrev Inv-loop : tie.InvT-loop
 Inv-loop records desk whole k₀ k =

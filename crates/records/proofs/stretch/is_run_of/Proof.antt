@@ -4,8 +4,6 @@ use borrow.Author.Tests.{ne-eqb, eq-eqb}
 use Rattle.rules.specs.DeskRuns.{isRunOf}
 use Rattle.records.proofs.stretch.is_run_of.Statement.{statement}
 use Rattle.records.proofs.stretch.is_run_of.Tie as tie
-use Rattle.records.proofs.stretch.is_run_of.Reads as reads
-use Rattle.records.proofs.stretch.is_run_of.Lts as lts
 
 mul-at : tie.Need-mul-at
 mul-at c = search needs

@@ -1,15 +1,11 @@
 -- `stretch_of` meets its contract: the stretch begins at the first run, or there is none.
 use Prim.Native.Nat.{_*_}
-use mathlib.Core.Path.{_≡_, refl, sym, ap, _∙_}
+use mathlib.Core.Path.{sym, ap, _∙_}
 use native.Mathlib.Omega.{arith}
 use Rattle.records.proofs.StretchLaws.{found-from, found-end, nothing-from, nothing-end}
 use borrow.Author.Needs.{needs}
 use Rattle.records.proofs.stretch.stretch_of.Statement.{statement}
 use Rattle.records.proofs.stretch.stretch_of.Tie as tie
-use Rattle.records.proofs.stretch.stretch_of.Reads as reads
-use Rattle.records.proofs.stretch.stretch_of.Lts as lts
-use Rattle.records.proofs.stretch.first_run.Reads as first-run-reads
-use Rattle.records.proofs.stretch.past_last_run.Reads as past-last-run-reads
 
 first-run-requires : tie.Need-first-run-requires
 first-run-requires c κs = search needs
