@@ -3,3 +3,4 @@ pub mod Worst
 pub mod Recording
 pub mod DeskSheet
 pub mod FromPlan
+pub mod Owning

@@ -2,3 +2,4 @@
 pub mod Ordered
 pub mod Rows
 pub mod Sheet
+pub mod Own

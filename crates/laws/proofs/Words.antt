@@ -292,6 +292,12 @@ module _ {A : Type 0} (p q : A → Bool) where
       (λ e. rw (e, h y (here refl) e, when) (omega arith))
       (λ e. by-test (q y) (λ k. rw (e, k, when) (omega arith)) (λ k. rw (e, k, when) ih))
 
+-- Tests that agree on the list keep the same of it.
+pub keep-same : {A : Type 0} (p q : A → Bool) (l : List A) → ((x : A) → Mem x l → p x ≡ q x) → keep p l ≡ keep q l
+unfolding keep
+keep-same p q [] h = refl
+keep-same p q (x ∷ l) h = rw (h x (here refl), keep-same p q l (on-tail x l h))
+
 pub keep-length : {A : Type 0} (p : A → Bool) (l : List A) → length (keep p l) ≤ length l
 unfolding keep
 keep-length p [] = omega arith

@@ -5,6 +5,7 @@ pub mod Held
 pub mod Sets
 pub mod Parts
 pub mod Solved
+pub mod SameLinks
 -- its runs, by slot and off the tables
 pub mod RunsLaid
 pub mod Turned
