@@ -20,7 +20,7 @@ use Rattle.rules.specs.Runs.{runsFrom}
 use Rattle.rules.specs.Entries.{Entry, entry, entries}
 use Rattle.rules.specs.Blocks.{inOrder, blockEnd, cutInOrder, cut, blockWorked}
 use Rattle.rules.specs.BlockSheet.{blocks, blockRuns, blockNumbers}
-use Rattle.laws.proofs.Words.{map-same, mem-row, mem-below, mem-map, below-mem}
+use Rattle.laws.proofs.Words.{map-same, mem-row, mem-below, mem-map, below-mem, keep-same}
 use Rattle.laws.proofs.Joined.{map-twice, mem-of-map}
 use Rattle.laws.proofs.Sound.{place-mem}
 use Rattle.laws.proofs.Signed.{up, dn, _≼_, below-zero, below-zero-is}
@@ -37,6 +37,7 @@ use Rattle.method.specs.Hours.{deskEnd}
 use Rattle.method.specs.Board.{Stretch, stretchAt, boardIn, runOf, runsIn, holder, whom}
 use Rattle.method.specs.Method.{around, solved}
 use Rattle.method.proofs.Solved.{board-holds, board-tidy}
+use Rattle.method.proofs.SameLinks.{Agree, set-same}
 use Rattle.method.proofs.Turned.{board-runs}
 use Rattle.method.proofs.OfDesk.{entries-distinct, entries-links, works-early, works-own}
 use Rattle.method.proofs.Late.{runLate, worst-of-runs}
@@ -47,11 +48,6 @@ use Rattle.blocks.specs.Rows.{rowOf, lateIn, Dated}
 use Rattle.blocks.specs.Sheet.{Entered, sheetRow}
 use Rattle.blocks.proofs.Sorting.{desk-mem}
 
-keep-same : (p q : ℕ → Bool) (l : List ℕ) → ((i : ℕ) → Mem i l → p i ≡ q i) → keep p l ≡ keep q l
-unfolding keep
-keep-same p q [] h = refl
-keep-same p q (x ∷ l) h = rw (h x (here refl), keep-same p q l (λ i m. h i (there m)))
-
 -- A latest moment is near.
 near : (z : ℤ) → below-zero 244800 ≼ z → z ≼ pos 40000 → natAbs z ≤ 100000000
 unfolding up dn
@@ -59,7 +55,7 @@ near (pos k) l h = omega arith
 near (negsuc k) l h = omega (arith, below-zero-is 244800)
 
 module _ (J : Job) (n m : ℕ) (desks durations befores afters ready : List ℕ) (latests : List ℤ)
-    (e : Entered J n m desks durations befores afters ready latests) (d : ℕ) where
+    (d : ℕ) (e : Entered J d n m desks durations befores afters ready latests) where
   -- The desk's pieces, and the list of them in order.
   abbrev own : List ℕ
   own = onDesk desks d 0 n
@@ -173,15 +169,29 @@ module _ (J : Job) (n m : ℕ) (desks durations befores afters ready : List ℕ)
           around (openEnd J d) (solved (linked J) (openEnd J d) (length (entries J d))) none 0 0
           (cutInOrder (openEnd J d) (inOrder (entries J d))) []
 
+      -- The links of the tables are the job's where both pieces are the desk's.
+      on-desk : (x : Entry) → Mem x (inOrder (entries J d)) → (x .number < n) × (desk J (x .number) ≡ d)
+      unfolding entries entry
+      on-desk x k =
+          let w = mem-of-map (entry J) (deskPieces J d) x
+          (mem-sorted waits (entries J d) x (subst (λ (l : List Entry). Mem x l) (in-order (entries J d)) k)) in
+          let own = mem-deskPieces J d (w .0) (w .1) in
+          rw (w .2) (omega (arith, own .0, e .count), own .1)
+
+      same-links : Agree (tiedIn m befores afters) (linked J) (inOrder (entries J d))
+      same-links x y k l =
+          let p = on-desk x k in
+          let q = on-desk y l in
+          e .tied (x .number) (y .number) (p .0) (q .0) (p .1) (q .1)
+
       board-is : boardIn k pieces froms untils ≡ laid
       unfolding whom when openEnd deskEnd
       board-is =
-          let same : tiedIn m befores afters ≡ linked J = fun-ext (λ i. fun-ext (λ j. e .tied i j)) in
           cuts (length (entries J d)) (omega (arith, ap length (l .are), list-count, entries-count))
           ∙ ap (λ (es : List Entry). around deskEnd (solved (tiedIn m befores afters) deskEnd (length (entries J d))) none 0 0
           (cutInOrder deskEnd es) []) listed-are
-          ∙ ap (λ (g : ℕ → ℕ → Bool). around deskEnd (solved g deskEnd (length (entries J d))) none 0 0
-          (cutInOrder deskEnd (inOrder (entries J d))) []) same
+          ∙ set-same (tiedIn m befores afters) (linked J) deskEnd (length (entries J d)) none 0 0 (inOrder (entries J d)) []
+          same-links
 
       pub sheet-runs : runsIn k pieces froms untils ≡ blockRuns J d
       unfolding blockRuns blockWorked

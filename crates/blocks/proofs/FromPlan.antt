@@ -16,8 +16,10 @@ use Rattle.rules.specs.Tables.{linkIn}
 use Rattle.laws.proofs.Words.{by-test, true-or-false, and-true, and-intro, or-true, or-left, or-right}
 use Rattle.laws.proofs.Sound.{linked-link, link-linked}
 use Rattle.blocksteps.specs.Listed.{tiedIn}
+use Rattle.blocksteps.specs.Aside.{Tied}
 use Rattle.ready.specs.Planned.{HoldsRaised}
 use Rattle.ready.proofs.FromTables.{job-count, job-desk, job-duration, link-mem, mem-link, before-small, after-small, pieces-few, links-few}
+use Rattle.blocks.specs.Own.{OwnLinks}
 use Rattle.blocks.specs.Sheet.{Entered, Laid}
 
 -- The links of the tables, one by one.
@@ -66,21 +68,29 @@ module _ (J : Job) (n m : ℕ) (desks durations releases befores afters handover
       found-tied befores afters i j m (k .0) (k .1) (sym (ap (λ q. q .before) (k .2)) ∙ w .2)
       (sym (ap (λ q. q .after) (k .2)) ∙ w .3))
 
-  pub laid-entered : (table : List ℕ) → HoldsRaised J table
-      → Entered J n m desks durations befores afters table latests
-  laid-entered table r =
+  -- With the links of desk d alone.
+  pub laid-tied : Tied m befores afters
+  laid-tied = record {
+    few = links-few J n m _ _ _ _ _ _ _ (l .planned);
+    before-known = λ k h.
+        omega (arith, pieces-few J n m _ _ _ _ _ _ _ (l .planned), before-small J n m _ _ _ _ _ _ _ (l .planned) k h);
+    after-known = λ k h.
+        omega (arith, pieces-few J n m _ _ _ _ _ _ _ (l .planned), after-small J n m _ _ _ _ _ _ _ (l .planned) k h);
+  }
+
+  pub laid-entered : (table : List ℕ) → HoldsRaised J table → (d k : ℕ) (ownBefores ownAfters : List ℕ)
+      → OwnLinks d desks m befores afters k ownBefores ownAfters → Entered J d n k desks durations ownBefores ownAfters table latests
+  laid-entered table r d k ownBefores ownAfters own =
       let p = l .planned in
-      let few : n ≤ 256 = pieces-few J n m _ _ _ _ _ _ _ p in
       record {
         sound = p .sound;
         free = p .free;
         count = job-count J n m _ _ _ _ _ _ _ p;
-        links = record {
-          few = links-few J n m _ _ _ _ _ _ _ p;
-          before-known = λ k h. omega (arith, before-small J n m _ _ _ _ _ _ _ p k h);
-          after-known = λ k h. omega (arith, after-small J n m _ _ _ _ _ _ _ p k h);
-        };
-        tied = links-same;
+        links = own .links;
+        tied = λ i j p q x y.
+            own .same i j (sym (job-desk J n m _ _ _ _ _ _ _ (l .planned) i p) ∙ x)
+            (sym (job-desk J n m _ _ _ _ _ _ _ (l .planned) j q) ∙ y)
+            ∙ links-same i j;
         desk-is = job-desk J n m _ _ _ _ _ _ _ p;
         duration-is = job-duration J n m _ _ _ _ _ _ _ p;
         raised-is = λ i h. sym (r .each i (omega (arith, job-count J n m _ _ _ _ _ _ _ p)));

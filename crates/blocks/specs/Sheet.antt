@@ -19,14 +19,14 @@ use Rattle.blocksteps.specs.Aside.{Tied}
 use Rattle.ready.specs.Planned.{Planned}
 use Rattle.blocks.specs.Rows.{BlockRow, rowsIn}
 
--- The tables hold job J, sound and without a ring: its desks, durations and links, its raised ready moments and its latest
--- moments.
-pub record Entered (J : Job) (n m : ℕ) (desks durations befores afters ready : List ℕ) (latests : List ℤ) : Type 0 where
+-- The tables hold job J, sound and without a ring: its desks, durations, raised ready moments and latest moments, and the
+-- links between two pieces of desk d.
+pub record Entered (J : Job) (d n m : ℕ) (desks durations befores afters ready : List ℕ) (latests : List ℤ) : Type 0 where
   pub sound : Sound J
   pub free : ringPiece J ≡ none
   pub count : pieceCount J ≡ n
   pub links : Tied m befores afters
-  pub tied : (i j : ℕ) → tiedIn m befores afters i j ≡ linked J i j
+  pub tied : (i j : ℕ) → i < n → j < n → desk J i ≡ d → desk J j ≡ d → tiedIn m befores afters i j ≡ linked J i j
   pub desk-is : (i : ℕ) → i < n → desk J i ≡ getD desks i 0
   pub duration-is : (i : ℕ) → i < n → duration J i ≡ getD durations i 0
   pub raised-is : (i : ℕ) → i < n → raised J i ≡ getD ready i 0

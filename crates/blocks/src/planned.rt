@@ -1,4 +1,6 @@
-// The block sheet of one desk out of the tables of a finished plan: the raised ready moments are made of them first.
+// The block sheet of one desk out of the tables of a finished plan: the raised ready moments are made of them first, and the
+// links of the desk are picked out.
+use crate::own::own_links;
 use crate::sheet::Sheet;
 use crate::sheet::desk_sheet;
 use ready::raise::raised_moments;
@@ -54,14 +56,25 @@ pub fn planned_sheet(
         finishes,
         &mut ready,
     );
-    desk_sheet(
-        n,
+    let mut own_befores = [0u16; 1024];
+    let mut own_afters = [0u16; 1024];
+    let own = own_links(
         m,
         desk,
         desks,
-        durations,
         befores,
         afters,
+        &mut own_befores,
+        &mut own_afters,
+    );
+    desk_sheet(
+        n,
+        own,
+        desk,
+        desks,
+        durations,
+        &own_befores,
+        &own_afters,
         &ready,
         latests,
         counts,

@@ -37,13 +37,13 @@ pub fn desk_sheet(
     untils: &mut [u32; 512],
 ) -> Sheet
     requires { ⌜
-        ((J : Job) × Entered J n m (now desks) (now durations) (now befores) (now afters) (now ready) (now latests))
+        ((J : Job) × Entered J desk n m (now desks) (now durations) (now befores) (now afters) (now ready) (now latests))
         ⌝ }
     requires { ⌜ RowTables (now counts) (now starts) (now ends) ⌝ }
     requires { ⌜ Tables (now pieces) (now froms) (now untils) ⌝ }
     ensures { λ r.
         ⌜
-        ((J : Job) → Entered J n m (now (desks .entry)) (now (durations .entry)) (now (befores .entry))
+        ((J : Job) → Entered J desk n m (now (desks .entry)) (now (durations .entry)) (now (befores .entry))
         (now (afters .entry)) (now (ready .entry)) (now (latests .entry))
         → SheetOf J desk (now (counts .exit)) (now (starts .exit)) (now (ends .exit)) (now (pieces .exit))
         (now (froms .exit)) (now (untils .exit)) (r .blocks) (r .runs) (r .worst))

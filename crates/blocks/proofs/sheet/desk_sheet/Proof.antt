@@ -30,7 +30,7 @@ first-blocks-requires c κs = let s = c .before .before .before .before .before 
     let ids = o .last .1 .1 .1 .1 .1 .1 .0 in
     let fits : o .result ≤ length ids = omega (arith, l .sized, l .within) in
     let w = s .pre .0 in
-    (sheet-listed (w .0) _ _ _ _ _ _ _ _ (w .1) (s .args .desk) ids (o .result) l, s .pre .1 .0)
+    (sheet-listed (w .0) _ _ _ _ _ _ _ _ (s .args .desk) (w .1) ids (o .result) l, s .pre .1 .0)
 
 array-borrow-prefix-ids : tie.Need-array-borrow-prefix-ids
 array-borrow-prefix-ids c = search needs
@@ -50,7 +50,7 @@ cut-set-requires c κs = let s = c .before .before .before .before .before .befo
     let w = s .pre .0 in
     record {
       links = w .1 .links;
-      listed = sheet-listed (w .0) _ _ _ _ _ _ _ _ (w .1) (s .args .desk) ids (o .result) l;
+      listed = sheet-listed (w .0) _ _ _ _ _ _ _ _ (s .args .desk) (w .1) ids (o .result) l;
       marks-sized = refl;
       tables = s .pre .1 .1;
       room = omega (arith, l .within, share-none, sized);
@@ -67,7 +67,7 @@ worst-lateness-requires c κs = let s = c .before .before .before .before .befor
     let w = s .pre .0 in
     let k = c .before .before .before .cut-set in
     let board = k .last .1 .1 .1 .1 .1 .1 .1 .1 .1 .1 .1 in
-    sheet-dated (w .0) _ _ _ _ _ _ _ _ (w .1) (s .args .desk) ids (o .result) l (k .result) _ (board .1 .0) _
+    sheet-dated (w .0) _ _ _ _ _ _ _ _ (s .args .desk) (w .1) ids (o .result) l (k .result) _ (board .1 .0) _
     (k .ensures .1) (omega (arith, k .ensures .0 .few, l .within, share-none, sized))
 
 returns : tie.Need-returns
@@ -82,15 +82,15 @@ returns c J e = let s = c .before .before .before .before .before .before .befor
     let board = k .last .1 .1 .1 .1 .1 .1 .1 .1 .1 .1 .1 in
     let b = c .before .before .before .before .before .before .before .before .before .before .first-blocks in
     let late = c .worst-lateness in
-    let pieces = r-count J _ _ _ _ _ _ _ _ e (s .args .desk) ids (o .result) l in
+    let pieces = r-count J _ _ _ _ _ _ _ _ (s .args .desk) e ids (o .result) l in
     record {
       blocks-are =
-          b .ensures .rows (s .args .latests .now) ∙ sheet-rows J _ _ _ _ _ _ _ _ e (s .args .desk) ids (o .result) l;
+          b .ensures .rows (s .args .latests .now) ∙ sheet-rows J _ _ _ _ _ _ _ _ (s .args .desk) e ids (o .result) l;
       runs-are =
-          sheet-runs J _ _ _ _ _ _ _ _ e (s .args .desk) ids (o .result) l (k .result) _ _ _ (k .ensures .1);
+          sheet-runs J _ _ _ _ _ _ _ _ (s .args .desk) e ids (o .result) l (k .result) _ _ _ (k .ensures .1);
       worst-is =
           back (late .result) (late .ok) ∙ late .ensures
-          ∙ sheet-worst J _ _ _ _ _ _ _ _ e (s .args .desk) ids (o .result) l (k .result) _ (board .1 .0) _ (k .ensures .1);
+          ∙ sheet-worst J _ _ _ _ _ _ _ _ (s .args .desk) e ids (o .result) l (k .result) _ (board .1 .0) _ (k .ensures .1);
       few-blocks = omega (arith, b .ensures .few, pieces, sized);
       few-runs = omega (arith, k .ensures .0 .few, pieces, share-none, sized);
     }
