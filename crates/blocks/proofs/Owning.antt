@@ -1,8 +1,8 @@
 -- The links of one desk, link by link: one more that both its pieces put there, or one that is no link of the desk.
 use Prim.Native.Nat.{ℕ, zero, suc, _+_, _≤_, _<_}
-use mathlib.Core.Bool.{false, _&&_, _||_}
+use mathlib.Core.Bool.{false, _&&_}
 use mathlib.Core.List.{List}
-use mathlib.Core.Path.{_≡_, refl, sym, ap, _∙_}
+use mathlib.Core.Path.{_≡_, refl, _∙_}
 use native.Mathlib.Numerals.{add-one}
 use native.Mathlib.Omega.{arith}
 use borrow.Author.Tests.{ne-eqb}
@@ -12,7 +12,6 @@ use lib.Seq.{getD-set-same, getD-set-other}
 use Rattle.laws.proofs.Words.{by-test}
 use Rattle.theory.proofs.Cases.{by-eq}
 use Rattle.blocksteps.specs.Listed.{tiedIn}
-use Rattle.blocksteps.specs.Aside.{Tied}
 use Rattle.blocks.specs.Own.{OwnLinks}
 
 -- Whatever is stored behind the links changes none of them.

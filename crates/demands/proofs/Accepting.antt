@@ -7,7 +7,7 @@ use native.Mathlib.Omega.{arith}
 use Rattle.rules.specs.Job.{Job, Outcome, refused, accepted}
 use Rattle.rules.specs.Reading.{readJob}
 use Rattle.rules.specs.Rings.{ringPiece}
-use Rattle.rules.specs.Judgement.{thenJudge, unlessRing, fileOutcome, refuse}
+use Rattle.rules.specs.Judgement.{thenJudge, unlessRing, fileOutcome}
 use Rattle.rules.specs.Tables.{Sound}
 use Rattle.laws.proofs.Reading.{job-sound}
 use Rattle.demands.specs.Accepted.{AcceptedAs}

@@ -1,10 +1,10 @@
 -- Demand 3, first half: on the ready moments of the finished plan the block method gives each desk of an accepted file the
 -- same piece in the same slot as the plan does. And step 2's clause on direct links never changes who is set aside.
-use Prim.Native.Nat.{ℕ, _≤_}
-use mathlib.Core.Bool.{Bool, true, false}
-use mathlib.Core.List.{List, map, List·Memᴰ as Mem}
-use mathlib.Core.Path.{_≡_, refl, sym, ap, _∙_, fun-ext}
-use mathlib.Core.Option.{Option, none, some}
+use Prim.Native.Nat.{ℕ}
+use mathlib.Core.Bool.{true}
+use mathlib.Core.List.{List, List·Memᴰ as Mem}
+use mathlib.Core.Path.{_≡_, refl, ap, _∙_, fun-ext}
+use mathlib.Core.Option.{none}
 use native.Mathlib.Nat.{le-refl}
 use lib.ListN.{length}
 use Rattle.rules.specs.Job.{Job, duration, deskPieces}
@@ -13,9 +13,9 @@ use Rattle.rules.specs.Moments.{sooner}
 use Rattle.rules.specs.Rings.{linked, ringPiece}
 use Rattle.rules.specs.Tables.{Sound}
 use Rattle.rules.specs.Urgency.{worked, horizon}
-use Rattle.rules.specs.Runs.{Run, runsFrom, turns, runs}
+use Rattle.rules.specs.Runs.{runsFrom, turns, runs}
 use Rattle.rules.specs.Entries.{Entry, raised, entry, entries}
-use Rattle.rules.specs.Blocks.{costsLess, cheapest, withoutFollower, setWorked, blockWorked}
+use Rattle.rules.specs.Blocks.{costsLess, cheapest, withoutFollower, blockWorked}
 use Rattle.rules.specs.BlockSheet.{blockRuns}
 use Rattle.laws.proofs.Sound.{linked-link}
 use Rattle.laws.proofs.Latest.{before-is-sooner}

@@ -1,20 +1,19 @@
 -- Demand 1 about the answers: a call answers or refuses by a number on the list, a refusal leaves every byte, only one
 -- answer and one buffer meet a promise, and the first 20,496 bytes decide any longer file.
-use Prim.Native.Nat.{ℕ, zero, suc, _+_, _*_, _%_, _≤_, _<_}
+use Prim.Native.Nat.{ℕ, zero, suc, _+_, _*_, _%_, _≤_}
 use mathlib.Core.Bool.{Bool, true, false, not, _||_}
-use mathlib.Core.List.{List, [], _∷_}
+use mathlib.Core.List.{List}
 use mathlib.Core.Option.{Option, none, some}
 use mathlib.Core.Path.{_≡_, refl, sym, ap, _∙_}
 use native.Mathlib.Omega.{arith}
 use lib.Dec.{leb, ltb, eqb}
 use lib.ListN.{length, take}
-use lib.Seq.{take-take}
 use Rattle.rules.specs.Words.{when, oneOf}
 use Rattle.rules.specs.Job.{Job, Outcome, refused, accepted, pieceCount, emptyJob}
 use Rattle.rules.specs.File.{byteAt, wholeRecords, recordAt, Kind, ofPiece, ofLink, unknown, kindOf, asPiece, asLink, zeroPlaces}
 use Rattle.rules.specs.Reading.{pieceFault, linkFault, zeroFault, kindFault, orderFault, valueFault, firstFault, recordFault, contents, unlessFault, judged, atEnd, itemAt, andThen, readFrom, readJob}
 use Rattle.rules.specs.Rings.{ringPiece}
-use Rattle.rules.specs.Judgement.{refuse, thenJudge, unlessRing, unlessNoDesk, unlessShort, fileOutcome, planOutcome, blockOutcome}
+use Rattle.rules.specs.Judgement.{thenJudge, unlessRing, unlessNoDesk, unlessShort, fileOutcome, planOutcome, blockOutcome}
 use Rattle.rules.specs.Plan.{planNumbers, planAnswerOf, planBufferOf, planAnswer, planBuffer}
 use Rattle.rules.specs.BlockSheet.{blockNumbers, blockAnswerOf, blockBufferOf, blockAnswer, blockBuffer}
 use Rattle.rules.specs.Listing.{listingOf, listing}
@@ -25,7 +24,7 @@ use Rattle.rules.specs.declared.PlanAnswer.{PlanAnswer}
 use Rattle.rules.specs.declared.BlockAnswer.{BlockAnswer}
 use Rattle.rules.specs.declared.Item.{Item}
 use Rattle.rules.specs.declared.Item.the-variants.{Work, Tie, Stop, Done}
-use Rattle.laws.proofs.Words.{by-test, when-true, when-false}
+use Rattle.laws.proofs.Words.{by-test}
 use Rattle.laws.proofs.Prefix.{first-bytes-decide}
 use Rattle.demands.specs.Promises.{PlanPromise, BlockPromise, RunsPromise}
 

@@ -1,36 +1,33 @@
 -- Demand 3, second half: no allowed plan of a desk's pieces has a smaller worst lateness than the plan has, and the plan
 -- itself is allowed. It comes out of dominance: by every moment, as many slots on the pieces with latest moment at most x
 -- as any allowed plan could have worked on them.
-use Prim.Native.Nat.{ℕ, zero, suc, _+_, _≤_, _<_}
-use mathlib.Core.Bool.{Bool, true, false, _&&_}
-use mathlib.Core.List.{List, map, List·Memᴰ as Mem}
+use Prim.Native.Nat.{ℕ, zero, suc, _≤_}
+use mathlib.Core.Bool.{true}
+use mathlib.Core.List.{List, List·Memᴰ as Mem}
 use mathlib.Core.Option.{Option, none, some}
-use mathlib.Core.Path.{_≡_, refl, sym, ap, _∙_}
+use mathlib.Core.Path.{_≡_, refl}
 use native.Mathlib.Omega.{arith}
 use borrow.Author.Tests.{ltb-true, ltb-false}
 use lib.Dec.{ltb}
-use lib.IntN.{ℤ, pos, _-ℤ_}
+use lib.IntN.{ℤ}
 use lib.Signed.{leZ}
-use Rattle.rules.specs.Words.{isIt, worstOf}
-use Rattle.rules.specs.Job.{Job, pieceCount, desk, duration, deskPieces, linksInto}
+use Rattle.rules.specs.Words.{isIt}
+use Rattle.rules.specs.Job.{Job, desk, duration, deskPieces}
 use Rattle.rules.specs.Hours.{isOpen, openEnd}
 use Rattle.rules.specs.Moments.{latest, sooner}
 use Rattle.rules.specs.Rings.{linked, ringPiece}
 use Rattle.rules.specs.Tables.{Sound}
-use Rattle.rules.specs.Urgency.{workAt, worked, finish}
+use Rattle.rules.specs.Urgency.{worked, finish}
 use Rattle.rules.specs.Plan.{lateness}
 use Rattle.rules.specs.Entries.{ready, raised}
 use Rattle.laws.proofs.Words.{by-test}
-use Rattle.laws.proofs.Sound.{fits, link-linked}
+use Rattle.laws.proofs.Sound.{fits}
 use Rattle.laws.proofs.Signed.{leZ-le, le-leZ}
 use Rattle.laws.proofs.Order.{sooner-latest}
 use Rattle.laws.proofs.Hours.{always-open}
 use Rattle.laws.proofs.Slots.{it-is, mem-deskPieces, deskPieces-mem, worked-chosen}
-use Rattle.laws.proofs.Progress.{leftAt}
-use Rattle.theory.proofs.Count.{cnt, cnt-hit, cnt-mono}
-use Rattle.theory.proofs.Plans.{did}
+use Rattle.theory.proofs.Count.{cnt, cnt-hit}
 use Rattle.theory.proofs.Allowed.{Allowed}
-use Rattle.theory.proofs.Rule.{Obeys}
 use Rattle.theory.proofs.Links.{Lin, Late, linked-raised}
 use Rattle.theory.proofs.Finish.{Finish}
 use Rattle.theory.proofs.Work.{on}
@@ -39,8 +36,8 @@ use Rattle.theory.proofs.Lateness.{worst-least}
 use Rattle.demands.specs.Accepted.{AcceptedAs}
 use Rattle.demands.specs.Allowed.{AllowedPlan, worstLateness}
 use Rattle.demands.proofs.Accepting.{accepted-sound, accepted-free}
-use Rattle.demands.proofs.Finishes.{left-and-had, none-left, had-all, finished-at-finish}
-use Rattle.demands.proofs.OneDesk.{itself, pieces-distinct, desk-hours, urgency, had-here, desk-obeys-links, waits-linked, raised-moments, desk-obeys}
+use Rattle.demands.proofs.Finishes.{none-left, had-all, finished-at-finish}
+use Rattle.demands.proofs.OneDesk.{itself, pieces-distinct, desk-hours, urgency, had-here, waits-linked, raised-moments, desk-obeys}
 
 module _ (J : Job) (sound : Sound J) (free : ringPiece J ≡ none) (d : ℕ) where
   some-work : (i : ℕ) → Mem i (deskPieces J d) → 1 ≤ duration J i

@@ -1,24 +1,24 @@
 -- Demand 2, slot by slot: in every slot a desk works on piece i exactly if i is on it, ready, unfinished and sooner than
 -- every other such piece; it rests exactly if there is none.
-use Prim.Native.Nat.{ℕ, zero, suc, _+_, _≤_, _<_}
-use mathlib.Core.Bool.{Bool, true, false}
+use Prim.Native.Nat.{ℕ, _<_}
+use mathlib.Core.Bool.{true}
 use mathlib.Core.List.{List, List·Memᴰ as Mem}
 use mathlib.Core.Logic.{_↔_}
-use mathlib.Core.Option.{Option, none, some}
-use mathlib.Core.Path.{_≡_, refl, sym, ap, _∙_}
+use mathlib.Core.Option.{none, some}
+use mathlib.Core.Path.{_≡_}
 use native.Mathlib.Omega.{arith}
-use Rattle.rules.specs.Job.{Job, pieceCount, piece, desk, duration, linksInto}
-use Rattle.rules.specs.Moments.{delay, sooner}
+use Rattle.rules.specs.Job.{Job, pieceCount, piece, desk, linksInto}
+use Rattle.rules.specs.Moments.{sooner}
 use Rattle.rules.specs.Rings.{ringPiece}
 use Rattle.rules.specs.Tables.{Sound}
-use Rattle.rules.specs.Urgency.{isReady, workAt, worked, choice, finish}
+use Rattle.rules.specs.Urgency.{isReady, workAt, worked, finish}
 use Rattle.rules.specs.declared.Link.{Link}
 use Rattle.laws.proofs.Sound.{into-link, link-fit}
-use Rattle.laws.proofs.Slots.{Waits, Chosen, choice-none, chosen-choice, resting-choice, worked-chosen, ready-release, ready-before, ready-intro, handed-fact, fact-handed}
+use Rattle.laws.proofs.Slots.{Waits, choice-none, chosen-choice, resting-choice, worked-chosen, ready-release, ready-before, ready-intro, handed-fact, fact-handed}
 use Rattle.laws.proofs.Hours.{always-open}
-use Rattle.laws.proofs.Progress.{leftAt, finishAt}
+use Rattle.laws.proofs.Progress.{leftAt}
 use Rattle.demands.specs.Accepted.{AcceptedAs}
-use Rattle.demands.specs.EverySlot.{had, FinishedAt, ReadyAt, MayWork, MostUrgent}
+use Rattle.demands.specs.EverySlot.{ReadyAt, MayWork, MostUrgent}
 use Rattle.demands.proofs.Accepting.{accepted-sound, accepted-free}
 use Rattle.demands.proofs.Finishes.{left-and-had, finish-settled, finished-at-finish, finished-once, finished-by}
 

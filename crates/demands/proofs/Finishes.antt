@@ -2,21 +2,19 @@
 -- first such moment, its start the first slot worked; every piece of an accepted file is finished, at the latest at
 -- 408,160.
 use Prim.Native.Nat.{ℕ, zero, suc, _+_, _-_, _≤_, _<_}
-use mathlib.Core.Bool.{Bool, true, false}
-use mathlib.Core.List.{List}
-use mathlib.Core.Option.{Option, none, some}
-use mathlib.Core.Path.{_≡_, refl, sym, ap, _∙_}
+use mathlib.Core.Option.{none}
+use mathlib.Core.Path.{_≡_, sym, ap, _∙_}
 use native.Mathlib.Omega.{arith}
-use borrow.Author.Tests.{leb-true, leb-false, eqb-true, eqb-false, eq-eqb, ne-eqb}
-use lib.Dec.{leb, eqb}
+use borrow.Author.Tests.{leb-true, leb-false}
+use lib.Dec.{leb}
 use Rattle.rules.specs.Words.{when, isIt}
 use Rattle.rules.specs.Job.{Job, pieceCount, desk, duration}
 use Rattle.rules.specs.Rings.{ringPiece}
 use Rattle.rules.specs.Tables.{Sound}
-use Rattle.rules.specs.Urgency.{progress, workedOn, workAt, worked, horizon, start, finish}
-use Rattle.laws.proofs.Words.{by-test, when-true, when-false}
-use Rattle.laws.proofs.Slots.{it-is, not-it, work-start, work-on, work-off, by-work, worked-chosen}
-use Rattle.laws.proofs.Progress.{leftAt, finishAt, left-worked, left-falls, left-least, left-whole, finish-worked, finished-for-good, finish-past}
+use Rattle.rules.specs.Urgency.{progress, workAt, worked, horizon, start, finish}
+use Rattle.laws.proofs.Words.{by-test}
+use Rattle.laws.proofs.Slots.{it-is, not-it, work-start, work-off, by-work}
+use Rattle.laws.proofs.Progress.{leftAt, finishAt, left-worked, left-least, finish-worked, finished-for-good, finish-past}
 use Rattle.laws.proofs.Finishing.{all-finished, horizon-most}
 use Rattle.theory.proofs.Count.{cnt-zero, cnt-hit, cnt-miss}
 use Rattle.demands.specs.EverySlot.{had, FinishedAt}

@@ -2,21 +2,20 @@
 -- and so by the rule without links over the raised ready moments. From here the mathematics of one desk takes over.
 use Prim.Native.Nat.{ℕ, zero, suc, _+_, _≤_, _<_}
 use mathlib.Core.Bool.{Bool, true, false}
-use mathlib.Core.List.{List, [], _∷_, List·Memᴰ as Mem, List·Memᴰ·head as here, List·Memᴰ·tail as there}
-use mathlib.Core.Option.{Option, none, some}
-use mathlib.Core.Path.{_≡_, refl, sym, ap, _∙_}
+use mathlib.Core.List.{List, _∷_, List·Memᴰ as Mem, List·Memᴰ·head as here}
+use mathlib.Core.Option.{none}
+use mathlib.Core.Path.{_≡_, sym, ap, _∙_}
 use native.Mathlib.Omega.{arith}
 use borrow.Author.Tests.{eqb-true, eqb-false}
 use lib.Dec.{eqb}
 use Rattle.rules.specs.Words.{when, keep, row, below}
-use Rattle.rules.specs.Job.{Job, pieceCount, piece, desk, duration, deskPieces, linksInto}
+use Rattle.rules.specs.Job.{Job, pieceCount, piece, desk, duration, deskPieces}
 use Rattle.rules.specs.Hours.{isOpen, openEnd}
 use Rattle.rules.specs.Moments.{delay, sooner}
 use Rattle.rules.specs.Rings.{linked, ringPiece}
 use Rattle.rules.specs.Tables.{Sound}
 use Rattle.rules.specs.Urgency.{workAt, worked, finish}
 use Rattle.rules.specs.Entries.{ready, raised}
-use Rattle.rules.specs.declared.Link.{Link}
 use Rattle.laws.proofs.Words.{by-test, true-or-false, mem-row, mem-keep}
 use Rattle.laws.proofs.Sound.{fits, link-fit, into-link, link-into, linked-link, link-linked}
 use Rattle.laws.proofs.Order.{sooner-asym, sooner-trans, sooner-total}
@@ -25,14 +24,14 @@ use Rattle.laws.proofs.Delay.{delay-own-desk}
 use Rattle.laws.proofs.Hours.{always-open}
 use Rattle.laws.proofs.Raised as R
 use Rattle.laws.proofs.Slots.{Waits, by-choice, mem-deskPieces, deskPieces-mem, worked-chosen, choice-none, ready-release, ready-before, ready-intro, handed-fact, fact-handed}
-use Rattle.laws.proofs.Progress.{leftAt, finishAt, finish-past}
+use Rattle.laws.proofs.Progress.{leftAt, finish-past}
 use Rattle.theory.proofs.Hours.{Hours, hours-always}
 use Rattle.theory.proofs.Lists.{Distinct}
 use Rattle.theory.proofs.Order.{Urgency}
 use Rattle.theory.proofs.Plans.{did}
 use Rattle.theory.proofs.Rule.{Obeys, work, rest}
 use Rattle.theory.proofs.Links.{Linked, ObeysLinks, Raised, links-disappear}
-use Rattle.demands.proofs.Finishes.{left-and-had, none-left, had-all, finish-settled, finished-by}
+use Rattle.demands.proofs.Finishes.{left-and-had, finish-settled, finished-by}
 
 -- A piece is its own number.
 abbrev pub itself : ℕ → ℕ

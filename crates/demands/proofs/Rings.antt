@@ -1,7 +1,7 @@
 -- Demand 2 on rings: the computed test agrees with "leads by links" both ways, and a file with no fault in its records or
 -- its length is refused for a ring exactly if some piece leads by its links back to itself, at the lowest such piece.
-use Prim.Native.Nat.{ℕ, _<_, _≤_}
-use mathlib.Core.Bool.{Bool, true, false}
+use Prim.Native.Nat.{ℕ}
+use mathlib.Core.Bool.{true}
 use mathlib.Core.List.{List}
 use mathlib.Core.Logic.{_↔_}
 use mathlib.Core.Option.{Option, none, some}
@@ -11,7 +11,7 @@ use borrow.Author.Tests.{ltb-true, ltb-false}
 use lib.Dec.{ltb}
 use Rattle.rules.specs.Job.{Job, Outcome, refused, accepted, pieceCount}
 use Rattle.rules.specs.Reading.{readJob}
-use Rattle.rules.specs.Rings.{via, linked, leads, ringPiece}
+use Rattle.rules.specs.Rings.{linked, leads, ringPiece}
 use Rattle.rules.specs.Judgement.{thenJudge, unlessRing, fileOutcome, refuse}
 use Rattle.rules.specs.Tables.{Sound}
 use Rattle.laws.specs.Leads.{Leads}

@@ -1,23 +1,23 @@
 -- Runs of an accepted file: the run lengths of a piece add to its duration, a desk with m pieces has at most 2m - 1 runs,
 -- the runs of a desk rise and do not overlap, and result and run records fit 48 bytes for each piece.
 use Prim.Native.Nat.{ℕ, zero, suc, _+_, _-_, _*_, _≤_, _<_}
-use mathlib.Core.Bool.{Bool, true, false}
-use mathlib.Core.List.{List, [], _∷_, _++_, map, List·Memᴰ as Mem, List·Memᴰ·head as here, List·Memᴰ·tail as there, List·Memᴰ·append-cases}
+use mathlib.Core.Bool.{Bool, false}
+use mathlib.Core.List.{List, [], _∷_, _++_, map, List·Memᴰ as Mem, List·Memᴰ·head as here, List·Memᴰ·append-cases}
 use mathlib.Core.Logic.{⊎-elim}
-use mathlib.Core.Option.{Option, none, some}
+use mathlib.Core.Option.{none}
 use mathlib.Core.Path.{_≡_, refl, sym, ap, _∙_}
 use native.Mathlib.Omega.{arith}
-use borrow.Author.Tests.{ltb-true, ltb-false, eqb-true, eqb-false, eq-eqb, ne-eqb}
+use borrow.Author.Tests.{ltb-true, ltb-false, eqb-true, eqb-false, ne-eqb}
 use lib.Dec.{ltb, eqb}
 use lib.ListN.{length, length-map, length-append}
-use Rattle.rules.specs.Words.{when, keep, row, below, sum, joined}
+use Rattle.rules.specs.Words.{when, keep, row, below, sum}
 use Rattle.rules.specs.Job.{Job, pieceCount, desk, duration, deskPieces}
 use Rattle.rules.specs.Hours.{isOpen}
 use Rattle.rules.specs.Moments.{sooner}
 use Rattle.rules.specs.Rings.{ringPiece}
 use Rattle.rules.specs.Tables.{Sound}
-use Rattle.rules.specs.Urgency.{worked, workAt, horizon, finish}
-use Rattle.rules.specs.Runs.{Run, runsFrom, turns, runs}
+use Rattle.rules.specs.Urgency.{worked, horizon}
+use Rattle.rules.specs.Runs.{Run, runsFrom, runs}
 use Rattle.rules.specs.Entries.{raised}
 use Rattle.rules.specs.Bytes.{resultRecord, runRecord}
 use Rattle.rules.specs.Plan.{deskRunRecords, runRecords, resultRecords, planBytes, planNumbers}

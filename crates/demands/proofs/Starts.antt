@@ -1,14 +1,13 @@
 -- Start is the first slot worked, finish one past the last, and each piece gets exactly its duration. And the reason why
 -- this planner exists: no check ever starts on half a text.
-use Prim.Native.Nat.{ℕ, zero, suc, _+_, _-_, _≤_, _<_}
-use mathlib.Core.Bool.{Bool, true, false}
+use Prim.Native.Nat.{ℕ, zero, suc, _+_, _≤_, _<_}
 use mathlib.Core.List.{List, List·Memᴰ as Mem}
-use mathlib.Core.Option.{Option, none, some}
-use mathlib.Core.Path.{_≡_, refl, sym, ap, _∙_}
+use mathlib.Core.Option.{none, some}
+use mathlib.Core.Path.{_≡_, refl, ap, _∙_}
 use native.Mathlib.Omega.{arith}
-use borrow.Author.Tests.{eqb-true, eqb-false, eq-eqb, ne-eqb}
+use borrow.Author.Tests.{eqb-true, eqb-false}
 use lib.Dec.{eqb}
-use Rattle.rules.specs.Words.{when, isIt}
+use Rattle.rules.specs.Words.{isIt}
 use Rattle.rules.specs.Job.{Job, pieceCount, desk, duration}
 use Rattle.rules.specs.Moments.{delay}
 use Rattle.rules.specs.Rings.{ringPiece}
@@ -18,7 +17,7 @@ use Rattle.rules.specs.declared.Link.{Link}
 use Rattle.laws.proofs.Words.{by-test, when-true, when-false}
 use Rattle.laws.proofs.Sound.{fits, link-fit, link-into}
 use Rattle.laws.proofs.Slots.{it-is, work-on, work-off, by-work, worked-chosen, work-start, ready-before, handed-fact}
-use Rattle.laws.proofs.Progress.{leftAt, finishAt, left-whole, left-worked}
+use Rattle.laws.proofs.Progress.{leftAt, left-whole}
 use Rattle.laws.proofs.Finishing.{all-finished}
 use Rattle.theory.proofs.Count.{cnt-zero, cnt-hit, cnt-mono}
 use Rattle.demands.specs.Accepted.{AcceptedAs}

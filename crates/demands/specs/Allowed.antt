@@ -1,8 +1,8 @@
 -- The plans that demand 3 compares with: any plan of one desk's pieces, interruptible at any whole quarter-hour, that
 -- keeps the ready moments of the finished plan, the links among these pieces, and each full duration.
 use Prim.Native.Nat.{ℕ, _≤_}
-use mathlib.Core.Bool.{Bool, true}
-use mathlib.Core.List.{List, map, List·Memᴰ as Mem}
+use mathlib.Core.Bool.{true}
+use mathlib.Core.List.{map, List·Memᴰ as Mem}
 use mathlib.Core.Option.{Option, some}
 use mathlib.Core.Path.{_≡_}
 use lib.IntN.{ℤ, pos, _-ℤ_}

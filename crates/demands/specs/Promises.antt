@@ -1,11 +1,10 @@
 -- What each public call promises: one answer and one final content of the lent buffer, for every file, desk and buffer.
-use Prim.Native.Nat.{ℕ, _-_, _+_}
+use Prim.Native.Nat.{ℕ}
 use mathlib.Core.List.{List}
 use mathlib.Core.Path.{_≡_}
-use lib.ListN.{take, drop}
 use Rattle.rules.specs.Plan.{planAnswer, planBuffer}
 use Rattle.rules.specs.BlockSheet.{blockAnswer, blockBuffer}
-use Rattle.rules.specs.DeskRuns.{stretchFrom, stretchEnd, stretch}
+use Rattle.rules.specs.DeskRuns.{stretchFrom, stretch}
 use Rattle.rules.specs.declared.PlanAnswer.{PlanAnswer}
 use Rattle.rules.specs.declared.BlockAnswer.{BlockAnswer}
 

@@ -1,16 +1,14 @@
 -- From the tables of a finished plan to the listing of its job: the pages are the listing, line by line, and every listing has
 -- room in 131,072 bytes.
-use Prim.Native.Nat.{ℕ, zero, suc, _+_, _*_, _≤_, _<_}
-use mathlib.Core.Bool.{true, false}
-use mathlib.Core.List.{List, [], _∷_, _++_, map, append-assoc}
+use Prim.Native.Nat.{ℕ, _+_, _*_, _≤_, _<_}
+use mathlib.Core.List.{List, [], _∷_, _++_, map}
 use mathlib.Core.Path.{_≡_, refl, sym, ap, _∙_}
 use native.Mathlib.Omega.{arith}
 use borrow.Author.Tests.{lt-ltb, le-ltb}
 use lib.Dec.{ltb}
-use lib.IntN.{ℤ, pos, _-ℤ_}
+use lib.IntN.{ℤ}
 use lib.ListN.{length, getD, drop, length-append}
-use lib.Seq.{sets}
-use Rattle.rules.specs.Words.{when, below, joined, greatest, worstOf, sum}
+use Rattle.rules.specs.Words.{below, joined, greatest, worstOf, sum}
 use Rattle.rules.specs.Job.{Job, pieceCount, desk, refused, accepted}
 use Rattle.rules.specs.declared.Refusal.{Refusal}
 use Rattle.rules.specs.Moments.{latest}

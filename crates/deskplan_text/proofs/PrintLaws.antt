@@ -1,5 +1,5 @@
 -- What the stations of one listing hand on: the finished plan of an accepted job may be printed, and its pages are its listing.
-use Prim.Native.Nat.{ℕ, _+_, _*_, _≤_, _<_}
+use Prim.Native.Nat.{ℕ, _≤_}
 use mathlib.Core.List.{List}
 use mathlib.Core.Path.{_≡_}
 use native.Mathlib.Omega.{arith}

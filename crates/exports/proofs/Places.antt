@@ -1,10 +1,9 @@
 -- The place of a refusal is the place of a record or the number of a piece, so it fits a signed number of 64 bits.
-use Prim.Native.Nat.{ℕ, _+_, _*_, _/_, _≤_, _<_}
-use mathlib.Core.Bool.{true, false}
+use Prim.Native.Nat.{ℕ, _+_, _*_, _/_, _≤_}
 use mathlib.Core.List.{List, [], _∷_}
 use lib.IntN.{ℤ, pos}
 use mathlib.Core.Option.{Option, none, some}
-use mathlib.Core.Path.{_≡_, refl, sym, ap, _∙_}
+use mathlib.Core.Path.{_≡_, refl}
 use native.Mathlib.Omega.{arith}
 use lib.Dec.{ltb}
 use lib.ListN.{length}
@@ -15,7 +14,6 @@ use Rattle.rules.specs.Rings.{linked, ringPiece}
 use Rattle.rules.specs.Judgement.{thenJudge, unlessRing, unlessNoDesk, unlessShort, fileOutcome, planOutcome, blockOutcome}
 use Rattle.rules.specs.Plan.{planNumbers, planAnswerOf, planAnswer}
 use Rattle.rules.specs.BlockSheet.{blockNumbers, blockAnswerOf, blockAnswer}
-use Rattle.rules.specs.declared.Refusal.{Refusal}
 use Rattle.rules.specs.declared.PlanAnswer.{PlanAnswer}
 use Rattle.rules.specs.declared.BlockAnswer.{BlockAnswer}
 use Rattle.exports.specs.Calls.{planRow, sheetRow}

@@ -1,7 +1,7 @@
 -- Records of a plan: each is 16 bytes long, so records one behind the other are 16 bytes for each.
-use Prim.Native.Nat.{ℕ, _+_, _*_}
-use mathlib.Core.List.{List, [], _∷_, _++_, List·Memᴰ as Mem, List·Memᴰ·head as here}
-use mathlib.Core.Path.{_≡_, refl, sym, ap, _∙_}
+use Prim.Native.Nat.{ℕ, _*_}
+use mathlib.Core.List.{List, [], _∷_, List·Memᴰ as Mem, List·Memᴰ·head as here}
+use mathlib.Core.Path.{_≡_, refl}
 use native.Mathlib.Omega.{arith}
 use lib.IntN.{ℤ, pos, negsuc}
 use lib.ListN.{length, length-append}
@@ -10,7 +10,7 @@ use Rattle.rules.specs.Job.{Job, desk}
 use Rattle.rules.specs.Moments.{latest}
 use Rattle.rules.specs.Urgency.{start, finish}
 use Rattle.rules.specs.Runs.{Run}
-use Rattle.rules.specs.Bytes.{half, word, signedWord, planRecord, resultRecord, lastWord, runRecord, blockRecord}
+use Rattle.rules.specs.Bytes.{half, word, signedWord, planRecord, resultRecord, runRecord, blockRecord}
 use Rattle.laws.proofs.Words.{on-tail}
 
 pub word-sized : (n : ℕ) → length (word n) ≡ 4

@@ -1,6 +1,5 @@
 -- Laws of the delay of a link, which are all that is used of it: nothing on one desk, at most 480 slots.
-use Prim.Native.Nat.{ℕ, _≤_}
-use mathlib.Core.Bool.{true, false}
+use Prim.Native.Nat.{_≤_}
 use mathlib.Core.List.{List·Memᴰ as Mem}
 use mathlib.Core.Path.{_≡_}
 use native.Mathlib.Omega.{arith}

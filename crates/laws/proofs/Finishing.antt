@@ -5,25 +5,25 @@ use Prim.Native.Nat.{ℕ, zero, suc, _+_, _-_, _*_, _≤_, _<_}
 use mathlib.Core.Bool.{Bool, true, false}
 use mathlib.Core.List.{List, [], _∷_, map, List·Memᴰ as Mem, List·Memᴰ·head as here, List·Memᴰ·tail as there}
 use mathlib.Core.Logic.{_⊎_, inl, inr}
-use mathlib.Core.Option.{Option, none, some}
+use mathlib.Core.Option.{none, some}
 use mathlib.Core.Path.{_≡_, refl, sym, ap, _∙_}
 use native.Mathlib.Omega.{arith}
-use borrow.Author.Tests.{ltb-true, ltb-false, eqb-true, eqb-false, eq-eqb, leb-true, leb-false}
-use lib.Dec.{ltb, leb, eqb}
+use borrow.Author.Tests.{ltb-true, ltb-false, eqb-true, eqb-false, eq-eqb}
+use lib.Dec.{ltb}
 use lib.ListN.{length, getD}
 use Rattle.rules.specs.Words.{when, every, row, below, sum, greatest}
 use Rattle.rules.specs.Job.{Job, pieceCount, piece, desk, duration, linksInto, noPiece}
 use Rattle.rules.specs.Moments.{delay}
 use Rattle.rules.specs.Rings.{ringPiece}
 use Rattle.rules.specs.Tables.{Sound}
-use Rattle.rules.specs.Urgency.{progress, isFinished, isReady, handedOver, workAt, worked, horizon}
+use Rattle.rules.specs.Urgency.{isFinished, isReady, workAt, worked, horizon}
 use Rattle.rules.specs.declared.Link.{Link}
-use Rattle.laws.proofs.Words.{by-test, true-or-false, every-mem, every-intro, every-fails, mem-below, below-mem, mem-map, map-same, sum-le, sum-gap, sum-same, sum-mem, length-below, greatest-start, greatest-of, greatest-within, when-true, when-false}
+use Rattle.laws.proofs.Words.{by-test, true-or-false, every-mem, every-intro, every-fails, mem-below, below-mem, map-same, sum-le, sum-gap, sum-same, sum-mem, length-below, greatest-of, greatest-within, when-true, when-false}
 use Rattle.laws.proofs.Sound.{place-mem, into-link, link-fit, fits, along-before}
 use Rattle.laws.proofs.Delay.{delay-most}
 use Rattle.laws.proofs.Hours.{always-open}
-use Rattle.laws.proofs.Slots.{Waits, by-choice, choice-none, worked-chosen, unready-link, fact-handed}
-use Rattle.laws.proofs.Progress.{leftAt, finishAt, left-worked, left-falls, left-least, left-whole, finished-stays, finish-past}
+use Rattle.laws.proofs.Slots.{by-choice, choice-none, worked-chosen, unready-link, fact-handed}
+use Rattle.laws.proofs.Progress.{leftAt, finishAt, left-worked, left-falls, left-whole, finished-stays, finish-past}
 
 row-next : {B : Type 0} (g : ℕ → B) (n a : ℕ) → map g (row (suc a) n) ≡ map (λ i. g (suc i)) (row a n)
 unfolding row

@@ -1,5 +1,5 @@
 -- Laws of the open slots. Every desk is open in every slot.
-use Prim.Native.Nat.{ℕ, _+_}
+use Prim.Native.Nat.{ℕ}
 use mathlib.Core.Bool.{true}
 use mathlib.Core.Path.{_≡_, refl}
 use Rattle.rules.specs.Job.{Job}

@@ -1,6 +1,6 @@
 -- Lists one behind the other, and lists that grow at their end as a loop makes them: one number more below n, one member
 -- more kept, one list more behind the others.
-use Prim.Native.Nat.{ℕ, zero, suc, _+_, _*_, _≤_, _<_}
+use Prim.Native.Nat.{ℕ, zero, suc, _+_}
 use mathlib.Core.Bool.{Bool, true, false}
 use mathlib.Core.List.{List, [], _∷_, _++_, map, append-nil, append-assoc, List·Memᴰ as Mem, List·Memᴰ·head as here, List·Memᴰ·tail as there, List·Memᴰ·append-cases}
 use mathlib.Core.Logic.{_⊎_, inl, inr}

@@ -1,21 +1,20 @@
 -- Latest moments of a sound job without a ring: they satisfy the page's equation, nothing else does, they lie between
 -- -244,800 and 40,000, and a piece before goes before the piece after it.
-use Prim.Native.Nat.{ℕ, zero, suc, _+_, _-_, _*_, _≤_, _<_}
-use mathlib.Core.Bool.{Bool, true, false}
-use mathlib.Core.List.{List, [], _∷_, map, List·Memᴰ as Mem, List·Memᴰ·head as here, List·Memᴰ·tail as there}
+use Prim.Native.Nat.{ℕ, suc, _*_, _≤_, _<_}
+use mathlib.Core.Bool.{true}
+use mathlib.Core.List.{List, [], _∷_, map, List·Memᴰ as Mem, List·Memᴰ·head as here}
 use mathlib.Core.Option.{none}
 use mathlib.Core.Path.{_≡_, refl, sym, ap, _∙_}
 use native.Mathlib.Omega.{arith}
-use lib.IntN.{ℤ, pos, negsuc, _-ℤ_}
-use lib.ListN.{length}
+use lib.IntN.{ℤ, pos, _-ℤ_}
 use Rattle.rules.specs.Words.{leastZ}
-use Rattle.rules.specs.Job.{Job, pieceCount, piece, duration, linksFrom}
+use Rattle.rules.specs.Job.{Job, pieceCount, piece, linksFrom}
 use Rattle.rules.specs.Moments.{takesOff, latestWithin, latest, sooner}
 use Rattle.rules.specs.Rings.{ringPiece}
 use Rattle.rules.specs.Tables.{Sound}
 use Rattle.rules.specs.declared.Link.{Link}
 use Rattle.laws.proofs.Words.{map-same, mem-map}
-use Rattle.laws.proofs.Signed.{up, dn, _≼_, _≺_, minus, least-start, least-mem, least-within, below-zero, below-zero-is}
+use Rattle.laws.proofs.Signed.{up, dn, _≼_, minus, least-start, least-mem, least-within, below-zero, below-zero-is}
 use Rattle.laws.proofs.Sound.{fits, link-fit, from-link, link-from, behind, behind-falls, behind-few, along-after}
 use Rattle.laws.proofs.Order.{smaller-sooner}
 use Rattle.laws.proofs.Settling.{settles}

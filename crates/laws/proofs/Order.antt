@@ -1,17 +1,17 @@
 -- The order of urgency is a strict order in which any two different pieces stand one before the other, and a smaller
 -- latest moment goes before. These laws are all that is used of `sooner`.
-use Prim.Native.Nat.{ℕ, _+_, _≤_, _<_}
-use mathlib.Core.Bool.{Bool, true, false, _&&_, _||_}
+use Prim.Native.Nat.{ℕ, _<_}
+use mathlib.Core.Bool.{true, false, _&&_}
 use mathlib.Core.Logic.{_⊎_, inl, inr}
-use mathlib.Core.Path.{_≡_, refl, sym, ap, _∙_}
+use mathlib.Core.Path.{_≡_}
 use native.Mathlib.Omega.{arith}
 use borrow.Author.Tests.{ltb-true, ltb-false, lt-ltb}
 use lib.Dec.{ltb}
 use lib.Signed.{ltZ, leZ}
 use Rattle.rules.specs.Job.{Job}
 use Rattle.rules.specs.Moments.{latest, sooner}
-use Rattle.laws.proofs.Words.{by-test, true-or-false, and-true, and-false, and-intro, or-true, or-false, or-left, or-right}
-use Rattle.laws.proofs.Signed.{up, dn, _≼_, _≺_, ltZ-lt, ltZ-le, leZ-le, leZ-lt, lt-ltZ, le-leZ}
+use Rattle.laws.proofs.Words.{by-test, and-true, and-false, and-intro, or-true, or-false, or-left, or-right}
+use Rattle.laws.proofs.Signed.{_≼_, _≺_, ltZ-lt, ltZ-le, leZ-le, leZ-lt, lt-ltZ, le-leZ}
 
 module _ (J : Job) where
   -- Piece i goes before piece j: by the latest moment, or by the number where that is equal.

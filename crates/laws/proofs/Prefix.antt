@@ -1,18 +1,16 @@
 -- The first 20,496 bytes decide any longer file: they hold 1,281 whole records, and of so many one is refused at the
 -- latest by its count.
-use Prim.Native.Nat.{ℕ, zero, suc, _+_, _-_, _*_, _/_, _%_, _≤_, _<_, min}
-use mathlib.Core.Bool.{Bool, true, false}
-use mathlib.Core.List.{List, [], _∷_, _++_}
+use Prim.Native.Nat.{ℕ, zero, suc, _+_, _-_, _*_, _/_, _≤_, _<_}
+use mathlib.Core.List.{List, [], _∷_}
 use mathlib.Core.Path.{_≡_, refl, sym, ap, _∙_}
 use native.Mathlib.Omega.{arith}
 use native.Mathlib.Nat.{suc-add, zero-add}
 use borrow.Author.Tests.{leb-true, leb-false, lt-ltb}
-use lib.Dec.{ltb, leb}
+use lib.Dec.{leb}
 use lib.ListN.{length, take, drop, length-append, length-take}
 use lib.Seq.{take-take, take-all, take-nil}
-use Rattle.rules.specs.Words.{when}
-use Rattle.rules.specs.Job.{Job, Outcome, accepted, emptyJob, withPiece, withLink, pieceCount}
-use Rattle.rules.specs.File.{wholeRecords, recordAt}
+use Rattle.rules.specs.Job.{Job, Outcome, emptyJob, withPiece, withLink, pieceCount}
+use Rattle.rules.specs.File.{recordAt}
 use Rattle.rules.specs.Reading.{judged, itemAt, andThen, readFrom, readJob}
 use Rattle.rules.specs.Tables.{Sound}
 use Rattle.rules.specs.declared.Item.{Item}

@@ -1,13 +1,11 @@
 -- How far a piece is, over time: what is left only falls, a finished piece stays as it is, and no finish lies ahead.
 use Prim.Native.Nat.{ℕ, zero, suc, _+_, _-_, _≤_, _<_}
-use mathlib.Core.Bool.{Bool, true, false}
-use mathlib.Core.Option.{none, some}
-use mathlib.Core.Path.{_≡_, refl, sym, ap, _∙_}
+use mathlib.Core.Option.{some}
+use mathlib.Core.Path.{_≡_, ap, _∙_}
 use native.Mathlib.Omega.{arith}
-use Rattle.rules.specs.Words.{when}
 use Rattle.rules.specs.Job.{Job, pieceCount, desk, duration}
-use Rattle.rules.specs.Urgency.{Progress, progress, workedOn, workAt, worked}
-use Rattle.laws.proofs.Slots.{Chosen, Waits, work-start, work-on, work-off, by-work, worked-chosen}
+use Rattle.rules.specs.Urgency.{progress, workedOn, workAt, worked}
+use Rattle.laws.proofs.Slots.{work-start, work-on, work-off, by-work, worked-chosen}
 
 module _ (J : Job) where
   -- The slots that piece i still needs at moment t, and one past its last slot worked before t.

@@ -1,8 +1,8 @@
 -- Ready moments of a finished plan: what `ready` takes in, and the equation that raised ready moments satisfy on a sound
 -- job without a ring.
-use Prim.Native.Nat.{ℕ, zero, suc, _+_, _≤_, _<_}
-use mathlib.Core.Bool.{Bool, true, false, not}
-use mathlib.Core.List.{List, [], _∷_, map, List·Memᴰ as Mem, List·Memᴰ·head as here, List·Memᴰ·tail as there}
+use Prim.Native.Nat.{ℕ, suc, _+_, _≤_, _<_}
+use mathlib.Core.Bool.{not}
+use mathlib.Core.List.{List, [], _∷_, map, List·Memᴰ as Mem, List·Memᴰ·head as here}
 use mathlib.Core.Option.{none}
 use mathlib.Core.Path.{_≡_, refl, sym, ap, _∙_}
 use native.Mathlib.Omega.{arith}
@@ -17,8 +17,8 @@ use Rattle.rules.specs.Tables.{Sound}
 use Rattle.rules.specs.Urgency.{finish}
 use Rattle.rules.specs.Entries.{fromElsewhere, fromOwnDesk, ready, raisedWithin, raised}
 use Rattle.rules.specs.declared.Link.{Link}
-use Rattle.laws.proofs.Words.{by-test, mem-keep, keep-mem, map-same, greatest-start, greatest-of, greatest-within}
-use Rattle.laws.proofs.Sound.{into-link, link-into, ahead, ahead-falls, ahead-few}
+use Rattle.laws.proofs.Words.{mem-keep, keep-mem, map-same, greatest-start, greatest-of, greatest-within}
+use Rattle.laws.proofs.Sound.{into-link, ahead, ahead-falls, ahead-few}
 use Rattle.laws.proofs.Settling.{settles}
 
 module _ (J : Job) where

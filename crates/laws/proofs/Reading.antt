@@ -1,18 +1,16 @@
 -- Laws of reading: a job that was read is sound; and the first 20,496 bytes decide any longer file, since of 1,281 records
 -- one is refused at the latest by its count.
-use Prim.Native.Nat.{ℕ, zero, suc, _+_, _-_, _*_, _/_, _%_, _≤_, _<_, min}
-use mathlib.Core.Bool.{Bool, true, false}
+use Prim.Native.Nat.{ℕ, zero, suc, _+_, _%_, _<_}
 use mathlib.Core.List.{List, [], _∷_, _++_}
 use mathlib.Core.Path.{_≡_, refl, sym, ap, _∙_}
 use native.Mathlib.Omega.{arith}
-use borrow.Author.Tests.{ltb-true, ltb-false, leb-true, leb-false, lt-ltb, le-ltb, eqb-true, eqb-false}
+use borrow.Author.Tests.{ltb-true, ltb-false, leb-false}
 use lib.Dec.{ltb, leb, eqb}
-use lib.ListN.{length, getD, take, drop, length-append, length-take, List·getD-append}
-use lib.Seq.{take-take, take-all, take-nil, getD-append-seam}
-use Rattle.rules.specs.Words.{when}
+use lib.ListN.{length, getD, length-append, List·getD-append}
+use lib.Seq.{getD-append-seam}
 use Rattle.rules.specs.Job.{Job, Outcome, refused, accepted, emptyJob, withPiece, withLink, pieceCount, piece, noPiece}
 use Rattle.rules.specs.File.{byteAt, wholeRecords, recordAt, Kind, ofPiece, ofLink, unknown, kindOf, asPiece, asLink}
-use Rattle.rules.specs.Reading.{pieceFault, linkFault, kindFault, orderFault, valueFault, zeroFault, firstFault, recordFault, contents, unlessFault, judged, atEnd, itemAt, andThen, readFrom, readJob}
+use Rattle.rules.specs.Reading.{pieceFault, linkFault, kindFault, orderFault, valueFault, firstFault, recordFault, contents, unlessFault, judged, atEnd, itemAt, andThen, readFrom, readJob}
 use Rattle.rules.specs.Tables.{Sound, noLink}
 use Rattle.rules.specs.declared.Piece.{Piece}
 use Rattle.rules.specs.declared.Link.{Link}

@@ -2,10 +2,10 @@
 -- to a piece falls along every link back, and so does the number of pieces it leads to along every link forth. These two
 -- counts carry every argument over links.
 use Prim.Native.Nat.{ℕ, zero, suc, _+_, _≤_, _<_}
-use mathlib.Core.Bool.{Bool, true, false, _&&_, _||_}
-use mathlib.Core.List.{List, [], _∷_, List·Memᴰ as Mem, List·Memᴰ·head as here, List·Memᴰ·tail as there}
-use mathlib.Core.Logic.{_⊎_, inl, inr, ⊎-elim}
-use mathlib.Core.Option.{Option, none, some}
+use mathlib.Core.Bool.{Bool, true, false, _&&_}
+use mathlib.Core.List.{List, _∷_, List·Memᴰ as Mem, List·Memᴰ·head as here, List·Memᴰ·tail as there}
+use mathlib.Core.Logic.{_⊎_, inl, inr}
+use mathlib.Core.Option.{none, some}
 use mathlib.Core.Path.{_≡_, refl, sym, ap, _∙_}
 use native.Mathlib.Omega.{arith}
 use borrow.Author.Tests.{ltb-true, ltb-false}
@@ -14,7 +14,7 @@ use lib.ListN.{length}
 use Rattle.rules.specs.Words.{when, keep, row, below}
 use Rattle.rules.specs.Rings.{via, firstOnRing, lowestOnRing}
 use Rattle.laws.specs.Leads.{Leads, direct, onward}
-use Rattle.laws.proofs.Words.{by-test, true-or-false, and-true, and-intro, or-true, or-false, or-left, or-right, keep-lt, keep-length, length-below, mem-below, below-mem, mem-keep}
+use Rattle.laws.proofs.Words.{by-test, and-true, and-intro, or-true, or-left, or-right, keep-lt, keep-length, length-below, below-mem}
 
 none-or-some : {P : Type 0} {i : ℕ} → none ≡ some i → P
 none-or-some e = let z : _≡_ {A = ℕ} 0 1 = cc in absurd (omega arith)

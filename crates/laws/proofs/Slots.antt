@@ -1,22 +1,22 @@
 -- Laws of one slot: who is waiting, who is chosen, and how far every piece is after the slot. They are all that is used
 -- of the plan slot by slot.
-use Prim.Native.Nat.{ℕ, zero, suc, _+_, _-_, _≤_, _<_}
-use mathlib.Core.Bool.{Bool, true, false, _&&_}
-use mathlib.Core.List.{List, [], _∷_, map, List·Memᴰ as Mem, List·Memᴰ·head as here, List·Memᴰ·tail as there}
+use Prim.Native.Nat.{ℕ, zero, suc, _+_, _≤_, _<_}
+use mathlib.Core.Bool.{true, false, _&&_}
+use mathlib.Core.List.{List, [], _∷_, List·Memᴰ as Mem, List·Memᴰ·head as here, List·Memᴰ·tail as there}
 use mathlib.Core.Option.{Option, none, some}
 use mathlib.Core.Path.{_≡_, refl, sym, ap, _∙_}
 use native.Mathlib.Omega.{arith}
-use borrow.Author.Tests.{ltb-true, ltb-false, leb-true, leb-false, eqb-true, eqb-false, eq-eqb, lt-ltb, le-leb, ne-eqb}
+use borrow.Author.Tests.{ltb-true, leb-true, eqb-true, eqb-false, eq-eqb, lt-ltb, le-leb}
 use lib.Dec.{ltb, leb, eqb}
-use lib.ListN.{length, getD, length-map, List·getD-map}
-use Rattle.rules.specs.Words.{when, keep, every, below, isIt}
+use lib.ListN.{length, length-map, List·getD-map}
+use Rattle.rules.specs.Words.{when, every, below, isIt}
 use Rattle.rules.specs.Job.{Job, pieceCount, piece, desk, duration, deskPieces, linksInto, noPiece}
 use Rattle.rules.specs.Hours.{isOpen}
 use Rattle.rules.specs.Moments.{delay, sooner}
 use Rattle.rules.specs.Urgency.{Progress, untouched, progress, isFinished, handedOver, isReady, waiting, preferred, mostUrgent, choice, workedOn, afterSlot, workAt, worked}
 use Rattle.rules.specs.declared.Link.{Link}
-use Rattle.laws.proofs.Words.{by-test, true-or-false, and-true, and-intro, and-false, mem-keep, keep-mem, every-mem, every-intro, every-fails, mem-below, below-mem, getD-below, length-below, when-true, when-false}
-use Rattle.laws.proofs.Order.{sooner-asym, sooner-irrefl, sooner-trans, sooner-total}
+use Rattle.laws.proofs.Words.{by-test, true-or-false, and-true, and-intro, mem-keep, keep-mem, every-mem, every-intro, every-fails, mem-below, below-mem, getD-below, length-below, when-true, when-false}
+use Rattle.laws.proofs.Order.{sooner-asym, sooner-trans, sooner-total}
 
 pub none-or-some : {P : Type 0} {i : ℕ} → none ≡ some i → P
 none-or-some e = let z : _≡_ {A = ℕ} 0 1 = cc in absurd (omega arith)

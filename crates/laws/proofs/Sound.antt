@@ -1,22 +1,21 @@
 -- What a sound job gives: the ranges of its values, links between its own pieces, and, where no ring was found, the two
 -- ways to argue along its links.
 use Prim.Native.Nat.{ℕ, zero, suc, _≤_, _<_}
-use mathlib.Core.Bool.{Bool, true, false, _&&_, _||_}
+use mathlib.Core.Bool.{true, false, _&&_}
 use mathlib.Core.List.{List, [], _∷_, List·Memᴰ as Mem, List·Memᴰ·head as here, List·Memᴰ·tail as there}
-use mathlib.Core.Option.{Option, none, some}
+use mathlib.Core.Option.{none, some}
 use mathlib.Core.Path.{_≡_, refl, sym, ap, _∙_}
 use native.Mathlib.Omega.{arith}
-use borrow.Author.Tests.{ltb-true, ltb-false, leb-true, leb-false, eqb-true, eqb-false, eq-eqb}
+use borrow.Author.Tests.{ltb-false, leb-false, eqb-true, eqb-false, eq-eqb}
 use lib.Dec.{ltb, leb, eqb}
 use lib.ListN.{length, getD}
-use Rattle.rules.specs.Words.{when, oneOf}
 use Rattle.rules.specs.Job.{Job, pieceCount, piece, desk, duration, linksInto, linksFrom}
 use Rattle.rules.specs.Reading.{pieceFault, linkFault}
 use Rattle.rules.specs.Rings.{via, linkedBy, linked, ringPiece}
 use Rattle.rules.specs.Tables.{Sound, noLink}
 use Rattle.rules.specs.declared.Piece.{Piece}
 use Rattle.rules.specs.declared.Link.{Link}
-use Rattle.laws.proofs.Words.{by-test, true-or-false, passed, and-true, and-intro, or-false, mem-keep, keep-mem, oneOf-found, oneOf-intro}
+use Rattle.laws.proofs.Words.{passed, and-true, and-intro, or-false, mem-keep, keep-mem, oneOf-found, oneOf-intro}
 use Rattle.laws.proofs.Rings as R
 
 -- A member stands at some place of its list.

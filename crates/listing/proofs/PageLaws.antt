@@ -1,24 +1,22 @@
 -- Lines one behind the other: one line more at a time, the lines of one desk out of the log, and how long they are at most.
 use Prim.Native.Nat.{ℕ, zero, suc, _+_, _-_, _*_, _≤_, _<_}
 use mathlib.Core.Bool.{true, false}
-use mathlib.Core.List.{List, [], _∷_, _++_, map, append-nil}
+use mathlib.Core.List.{List, [], _++_, map, append-nil}
 use mathlib.Core.Path.{_≡_, refl, sym, ap, _∙_}
 use native.Mathlib.Omega.{arith}
 use native.Mathlib.Numerals.{add-one}
 use lib.Dec.{eqb}
 use lib.IntN.{ℤ, pos}
 use lib.ListN.{length, getD, length-append}
-use Rattle.rules.specs.Words.{when, keep, below, joined}
-use Rattle.rules.specs.Listing.{digits, signedDigits, letters, field, signedField, line, runLine}
-use Rattle.rules.specs.Runs.{Run}
+use Rattle.rules.specs.Words.{keep, below, joined}
+use Rattle.rules.specs.Listing.{line, runLine}
 use Rattle.laws.proofs.Words.{by-test, when-true, when-false}
 use Rattle.laws.proofs.Joined.{joined-more, kept-more, not-kept-more, map-twice}
 use Rattle.steps.specs.Log.{runAt, loggedRuns}
-use Rattle.output.specs.Late.{latenessOf}
 use Rattle.listing.specs.Puts.{Puts}
-use Rattle.listing.specs.Lines.{pieceText, runText, pieceLineIn, pieceLinesIn, runLineIn, deskLinesIn, runLinesIn}
+use Rattle.listing.specs.Lines.{runText, pieceLineIn, pieceLinesIn, runLineIn, deskLinesIn, runLinesIn}
 use Rattle.listing.proofs.LineLaws.{piece-most}
-use Rattle.listing.proofs.TextLaws.{puts-then, puts-none, number-fits, signed-fits}
+use Rattle.listing.proofs.TextLaws.{puts-then, puts-none}
 
 -- Pages that grow line by line.
 module _ (page piece : ℕ → List ℕ) (more : (k : ℕ) → page (suc k) ≡ page k ++ piece k) where

@@ -1,6 +1,5 @@
 -- Bytes put one behind the other, and the digits of a number: at most as many as there is room for.
 use Prim.Native.Nat.{ℕ, zero, suc, _+_, _-_, _/_, _%_, _≤_, _<_}
-use mathlib.Core.Bool.{true, false}
 use mathlib.Core.List.{List, [], _∷_, _++_}
 use mathlib.Core.Path.{_≡_, refl, sym, ap, _∙_}
 use native.Mathlib.Omega.{arith}
@@ -8,9 +7,8 @@ use native.Mathlib.Numerals.{add-one}
 use borrow.Author.Tests.{lt-ltb, le-ltb, ltb-true, ltb-false}
 use lib.Dec.{ltb}
 use lib.IntN.{ℤ, pos, negsuc}
-use lib.ListN.{length, getD, take, set, length-set, length-append, length-take}
-use lib.Seq.{sets, length-sets, take-suc, length-take-le, take-length}
-use Rattle.rules.specs.Words.{when}
+use lib.ListN.{length, getD, take, set, length-append}
+use lib.Seq.{sets, length-sets, take-suc, length-take-le}
 use Rattle.rules.specs.Listing.{digitsWithin, digits, signedDigits}
 use Rattle.laws.proofs.Words.{by-test, when-true, when-false}
 use Rattle.records.proofs.Stores.{sets-on}

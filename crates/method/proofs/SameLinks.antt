@@ -5,9 +5,9 @@ use mathlib.Core.Bool.{Bool, not}
 use mathlib.Core.List.{List, [], _∷_, _++_, append-assoc, Memᴰ·append-left, Memᴰ·append-right}
 use mathlib.Core.List.{List·Memᴰ·head as here, List·Memᴰ·tail as there}
 use mathlib.Core.Option.{Option, none, some}
-use mathlib.Core.Path.{_≡_, refl, sym, ap, _∙_, subst}
+use mathlib.Core.Path.{_≡_, refl, ap, _∙_, subst}
 use lib.Dec.{leb}
-use Rattle.rules.specs.Words.{when, keep, oneOf}
+use Rattle.rules.specs.Words.{when, oneOf}
 use Rattle.rules.specs.Entries.{Entry}
 use Rattle.rules.specs.Blocks.{Block, blockOf, gathered, blockEnd, gather, cutInOrder, cheapest, withoutFollower, setAside, others}
 use Rattle.laws.proofs.Words.{by-test, keep-same}

@@ -1,7 +1,7 @@
 -- The figures grow with the pieces: with one piece more, the largest finish is the greater of what it was and that
 -- piece's, and so is the worst lateness.
 use Prim.Native.Nat.{ℕ, zero, suc, _+_, _≤_, _<_}
-use mathlib.Core.List.{[], map}
+use mathlib.Core.List.{map}
 use mathlib.Core.Path.{_≡_, refl, ap}
 use native.Mathlib.Nat.{le-antisymm}
 use native.Mathlib.Numerals.{add-one}

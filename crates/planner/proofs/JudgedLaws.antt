@@ -1,16 +1,14 @@
 -- A job file judged for itself, by the cases of its reading and of the ring check.
 use Prim.Native.Nat.{ℕ}
 use mathlib.Core.List.{List}
-use mathlib.Core.Option.{Option, none, some}
-use mathlib.Core.Path.{_≡_, refl, sym, ap, _∙_}
+use mathlib.Core.Option.{none, some}
+use mathlib.Core.Path.{_≡_, sym, ap, _∙_}
 use native.Mathlib.Omega.{arith}
-use Rattle.rules.specs.Job.{Outcome, refused, accepted}
-use Rattle.rules.specs.Reading.{readJob}
 use Rattle.rules.specs.Rings.{ringPiece, lowestOnRing}
 use Rattle.rules.specs.Judgement.{thenJudge, unlessRing, fileOutcome}
-use Rattle.rules.specs.Tables.{Sound, jobIn}
+use Rattle.rules.specs.Tables.{jobIn}
 use Rattle.rules.specs.declared.Refusal.{Refusal}
-use Rattle.reader.specs.Outcome.{outcomeOf, ReadsJob}
+use Rattle.reader.specs.Outcome.{ReadsJob}
 use Rattle.reader.specs.declared.Read.{Read}
 use Rattle.reader.specs.declared.Read.the-variants.{Job, Refused}
 use Rattle.reader.proofs.Callers.{is-refused, is-accepted, is-sound}

@@ -1,23 +1,22 @@
 -- From the tables of a finished plan to the promise of the call: the bytes written are the page's records, the counts and
 -- figures are the page's answer. Everything here is about one accepted job in its tables.
-use Prim.Native.Nat.{ℕ, zero, suc, _+_, _*_, _≤_, _<_}
-use mathlib.Core.Bool.{true, false}
-use mathlib.Core.List.{List, [], _∷_, _++_, map, append-assoc, List·Memᴰ as Mem}
+use Prim.Native.Nat.{ℕ, _+_, _*_, _≤_, _<_}
+use mathlib.Core.List.{List, _++_, map}
 use mathlib.Core.Path.{_≡_, refl, sym, ap, _∙_}
 use native.Mathlib.Omega.{arith}
 use borrow.Author.Tests.{lt-ltb, le-ltb}
 use lib.Dec.{eqb, ltb}
-use lib.IntN.{ℤ, pos, _-ℤ_}
-use lib.ListN.{length, getD, drop, take, length-map, length-append}
+use lib.IntN.{ℤ, pos}
+use lib.ListN.{length, getD, drop, length-map, length-append}
 use lib.Seq.{sets, sets-eq, length-sets}
 use Rattle.rules.specs.Words.{when, keep, below, joined, greatest, worstOf, sum}
-use Rattle.rules.specs.Job.{Job, pieceCount, desk, refused, accepted}
+use Rattle.rules.specs.Job.{Job, pieceCount, refused, accepted}
 use Rattle.rules.specs.declared.Refusal.{Refusal}
 use Rattle.rules.specs.declared.PlanAnswer.{PlanAnswer}
 use Rattle.demands.specs.Promises.{PlanPromise}
 use Rattle.rules.specs.Moments.{latest}
 use Rattle.rules.specs.Urgency.{start, finish}
-use Rattle.rules.specs.Runs.{Run, runs}
+use Rattle.rules.specs.Runs.{runs}
 use Rattle.rules.specs.Bytes.{resultRecord, runRecord}
 use Rattle.rules.specs.Judgement.{refuse, thenJudge, unlessShort, fileOutcome, planOutcome}
 use Rattle.rules.specs.Plan.{deskRunRecords, runRecords, resultRecords, planBytes, atFront, planNumbers, planAnswerOf, planBufferOf, planAnswer, planBuffer, lateness}

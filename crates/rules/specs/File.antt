@@ -1,6 +1,6 @@
 -- "The job file": records of 16 bytes, no header, numbers little-endian. What each byte of a piece and of a link means,
 -- and which bytes must be zero.
-use Prim.Native.Nat.{ℕ, zero, suc, _+_, _*_, _/_, _%_}
+use Prim.Native.Nat.{ℕ, zero, suc, _+_, _*_, _/_}
 use mathlib.Core.List.{List, [], _∷_}
 use lib.ListN.{length, getD, take, drop}
 use Rattle.rules.specs.declared.Piece.{Piece}

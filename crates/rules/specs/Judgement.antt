@@ -2,9 +2,8 @@
 -- holds is the refusal.
 use Prim.Native.Nat.{ℕ, _*_}
 use mathlib.Core.List.{List}
-use mathlib.Core.Option.{Option, none, some}
+use mathlib.Core.Option.{none, some}
 use lib.Dec.{ltb}
-use lib.ListN.{length}
 use Rattle.rules.specs.Words.{when}
 use Rattle.rules.specs.Job.{Job, Outcome, refused, accepted, pieceCount}
 use Rattle.rules.specs.Reading.{readJob}

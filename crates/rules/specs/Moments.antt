@@ -2,7 +2,7 @@
 -- piece is in the midst of a plan stands with the plan by urgency; the moments of a finished plan with the block method.
 use Prim.Native.Nat.{ℕ, zero, suc}
 use mathlib.Core.Bool.{Bool, _&&_, _||_}
-use mathlib.Core.List.{List, map}
+use mathlib.Core.List.{map}
 use lib.Dec.{ltb, eqb}
 use lib.IntN.{ℤ, pos, _-ℤ_}
 use lib.Signed.{ltZ, leZ}

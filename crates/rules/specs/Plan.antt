@@ -8,7 +8,7 @@ use Rattle.rules.specs.Words.{below, joined, greatest, worstOf}
 use Rattle.rules.specs.Job.{Job, Outcome, refused, accepted, pieceCount}
 use Rattle.rules.specs.Moments.{latest}
 use Rattle.rules.specs.Urgency.{finish}
-use Rattle.rules.specs.Runs.{Run, runs}
+use Rattle.rules.specs.Runs.{runs}
 use Rattle.rules.specs.Bytes.{resultRecord, runRecord}
 use Rattle.rules.specs.Judgement.{planOutcome}
 use Rattle.rules.specs.declared.PlanAnswer.{PlanAnswer}

@@ -1,8 +1,8 @@
 -- "Refusal numbers", 2 to 10 and 1: whole records are judged in file order, each for 2, 3, 4, 5, 6, 7, 9, 10, 8 in that
 -- order; the first refusal met ends the reading. Then come the bytes left after the last whole record.
 use Prim.Native.Nat.{ℕ, zero, suc, _+_, _%_}
-use mathlib.Core.Bool.{Bool, not, _||_}
-use mathlib.Core.List.{List, [], _∷_}
+use mathlib.Core.Bool.{not, _||_}
+use mathlib.Core.List.{List}
 use lib.Dec.{leb, ltb, eqb}
 use lib.ListN.{length}
 use Rattle.rules.specs.Words.{when, oneOf}

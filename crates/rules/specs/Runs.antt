@@ -1,7 +1,7 @@
 -- A run is a longest stretch of slots in which one desk works on one piece. It is read off the desk's open slots, one
 -- behind the other, with who is worked on in each.
-use Prim.Native.Nat.{ℕ, suc, _+_}
-use mathlib.Core.Bool.{Bool, true, false}
+use Prim.Native.Nat.{ℕ, _+_}
+use mathlib.Core.Bool.{Bool, false}
 use mathlib.Core.List.{List, [], _∷_, map}
 use mathlib.Core.Option.{Option, none, some}
 use lib.Dec.{eqb}

@@ -6,8 +6,7 @@ use mathlib.Core.List.{List, [], _∷_, _++_, map}
 use mathlib.Core.Path.{_≡_, refl}
 use Prim.Native.String.{String}
 use lib.IntN.{ℤ, pos, negsuc}
-use lib.ListN.{replicate, length}
-use Rattle.rules.specs.Words.{joined}
+use lib.ListN.{replicate}
 use Rattle.rules.specs.Hex.{hex}
 use Rattle.rules.specs.Plan.{planAnswer, planBuffer}
 use Rattle.rules.specs.BlockSheet.{blockAnswer, blockBuffer}

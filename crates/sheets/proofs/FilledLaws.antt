@@ -1,7 +1,7 @@
 -- What the stations of one block sheet hand on: the plan in its tables is what the block method asks for, its sheet has room
 -- in the lent buffer, and its counts are the page's answer.
-use Prim.Native.Nat.{ℕ, _+_, _*_, _≤_, _<_}
-use mathlib.Core.List.{List, map}
+use Prim.Native.Nat.{ℕ, _+_, _*_, _≤_}
+use mathlib.Core.List.{List}
 use mathlib.Core.Path.{_≡_, refl, sym, ap, _∙_}
 use native.Mathlib.Omega.{arith}
 use lib.IntN.{ℤ}

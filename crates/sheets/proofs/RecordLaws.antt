@@ -6,7 +6,7 @@ use native.Mathlib.Omega.{arith}
 use native.Mathlib.Numerals.{add-one}
 use lib.ListN.{length, getD, length-map}
 use lib.Seq.{sets, length-sets}
-use Rattle.rules.specs.Words.{below, joined}
+use Rattle.rules.specs.Words.{below}
 use Rattle.rules.specs.Bytes.{word, planRecord}
 use Rattle.laws.proofs.Words.{length-below}
 use Rattle.laws.proofs.Joined.{joined-more, mem-of-map}

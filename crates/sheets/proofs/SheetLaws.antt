@@ -1,12 +1,10 @@
 -- The records of blocks and of runs out of the tables of a block sheet are the page's bytes.
 use Prim.Native.Nat.{ℕ}
 use mathlib.Core.List.{List, map, _++_}
-use mathlib.Core.Path.{_≡_, refl, sym, ap, _∙_}
+use mathlib.Core.Path.{_≡_, sym, ap, _∙_}
 use lib.IntN.{ℤ}
-use lib.ListN.{length}
 use Rattle.rules.specs.Words.{below, joined}
 use Rattle.rules.specs.Job.{Job}
-use Rattle.rules.specs.Runs.{Run}
 use Rattle.rules.specs.Bytes.{blockRecord, runRecord, lastWord}
 use Rattle.rules.specs.BlockSheet.{blocks, blockRuns, blockRecordOf, sheetBytes}
 use Rattle.laws.proofs.Joined.{map-twice, joined-append}

@@ -1,13 +1,10 @@
 -- `put_links` is safe and ends: the links put so far lie within the file.
-use Prim.Native.Nat.{_+_, _-_, _*_, _≤_, _<_}
+use Prim.Native.Nat.{_-_, _≤_}
 use mathlib.Core.Path.{_≡_, refl, _∙_}
 use native.Mathlib.Omega.{arith}
 use lib.ListN.{length}
 use Rattle.cases.proofs.put_links.Statement.{statement}
 use Rattle.cases.proofs.put_links.Tie as tie
-use Rattle.cases.proofs.put_links.Reads as reads
-use Rattle.cases.proofs.put_links.Lts as lts
-use Rattle.records.proofs.put.put_record.Reads as put-record-reads
 
 abbrev Inv-loop : tie.InvT-loop
 Inv-loop file₀ m handover k₀ file k = (k ≤ m) × (length file ≡ length file₀)

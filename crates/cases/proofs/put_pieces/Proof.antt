@@ -1,13 +1,10 @@
 -- `put_pieces` is safe and ends: the pieces put so far lie within the file.
-use Prim.Native.Nat.{_+_, _-_, _*_, _≤_, _<_}
+use Prim.Native.Nat.{_-_, _≤_}
 use mathlib.Core.Path.{_≡_, refl, _∙_}
 use native.Mathlib.Omega.{arith}
 use lib.ListN.{length}
 use Rattle.cases.proofs.put_pieces.Statement.{statement}
 use Rattle.cases.proofs.put_pieces.Tie as tie
-use Rattle.cases.proofs.put_pieces.Reads as reads
-use Rattle.cases.proofs.put_pieces.Lts as lts
-use Rattle.records.proofs.put.put_record.Reads as put-record-reads
 
 abbrev Inv-loop : tie.InvT-loop
 Inv-loop file₀ n k₀ file k = (k ≤ n) × (length file ≡ length file₀)

@@ -1,19 +1,10 @@
 -- `try_links_in` is safe: the records lie within the file.
-use Prim.Native.Nat.{_+_, _*_, _≤_}
-use mathlib.Core.Path.{_≡_, sym}
+use mathlib.Core.Path.{sym}
 use native.Mathlib.Omega.{arith}
 use lib.Seq.{length-take-le}
 use borrow.Author.Needs.{needs}
 use Rattle.cases.proofs.try_links_in.Statement.{statement}
 use Rattle.cases.proofs.try_links_in.Tie as tie
-use Rattle.cases.proofs.try_links_in.Reads as reads
-use Rattle.cases.proofs.try_links_in.Lts as lts
-use Rattle.cases.proofs.print_answer.Reads as print-answer-reads
-use Rattle.cases.proofs.print_field.Reads as print-field-reads
-use Rattle.cases.proofs.put_links.Reads as put-links-reads
-use Rattle.io.proofs.write_all.Reads as write-all-reads
-use Rattle.planner.proofs.plan.plan.Reads as plan-reads
-use Rattle.records.proofs.put.put_record.Reads as put-record-reads
 
 put-record-requires : tie.Need-put-record-requires
 put-record-requires c κs = search needs

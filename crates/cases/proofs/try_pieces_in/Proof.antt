@@ -1,18 +1,10 @@
 -- `try_pieces_in` is safe: the records lie within the file, and the room within the buffer.
-use Prim.Native.Nat.{_+_, _*_, _≤_}
-use mathlib.Core.Path.{_≡_, sym}
+use mathlib.Core.Path.{sym}
 use native.Mathlib.Omega.{arith}
 use lib.Seq.{length-take-le}
 use borrow.Author.Needs.{needs}
 use Rattle.cases.proofs.try_pieces_in.Statement.{statement}
 use Rattle.cases.proofs.try_pieces_in.Tie as tie
-use Rattle.cases.proofs.try_pieces_in.Reads as reads
-use Rattle.cases.proofs.try_pieces_in.Lts as lts
-use Rattle.cases.proofs.print_answer.Reads as print-answer-reads
-use Rattle.cases.proofs.print_field.Reads as print-field-reads
-use Rattle.cases.proofs.put_pieces.Reads as put-pieces-reads
-use Rattle.io.proofs.write_all.Reads as write-all-reads
-use Rattle.planner.proofs.plan.plan.Reads as plan-reads
 
 put-pieces-requires : tie.Need-put-pieces-requires
 put-pieces-requires c κs = search needs

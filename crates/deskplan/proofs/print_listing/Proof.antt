@@ -1,14 +1,10 @@
 -- `print_listing` is safe: a listing lies within its text.
-use mathlib.Core.Path.{_≡_, sym}
+use mathlib.Core.Path.{sym}
 use lib.Seq.{length-take-le}
 use Rattle.deskplan_text.proofs.ListingLaws.{listed-within}
 use borrow.Author.Needs.{needs}
 use Rattle.deskplan.proofs.print_listing.Statement.{statement}
 use Rattle.deskplan.proofs.print_listing.Tie as tie
-use Rattle.deskplan.proofs.print_listing.Reads as reads
-use Rattle.deskplan.proofs.print_listing.Lts as lts
-use Rattle.deskplan_text.proofs.write_listing.Reads as write-listing-reads
-use Rattle.io.proofs.write_all.Reads as write-all-reads
 
 write-listing-requires : tie.Need-write-listing-requires
 write-listing-requires c κs = search needs

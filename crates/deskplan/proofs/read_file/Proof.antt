@@ -1,5 +1,5 @@
 -- `read_file` is safe and ends: what came so far lies within the file, and each turn brings a byte more.
-use Prim.Native.Nat.{ℕ, _+_, _-_, _≤_, _<_}
+use Prim.Native.Nat.{ℕ, _-_, _≤_}
 use mathlib.Core.Path.{_≡_, refl, _∙_}
 use native.Mathlib.Omega.{arith}
 use mathlib.Core.List.{List}
@@ -7,10 +7,6 @@ use lib.ListN.{length, take, drop, length-take}
 use borrow.Author.Needs.{needs}
 use Rattle.deskplan.proofs.read_file.Statement.{statement}
 use Rattle.deskplan.proofs.read_file.Tie as tie
-use Rattle.deskplan.proofs.read_file.Reads as reads
-use Rattle.deskplan.proofs.read_file.Lts as lts
-use Rattle.deskplan.proofs.read_more.Reads as read-more-reads
-use Rattle.io.proofs.count.Reads as count-reads
 
 -- What came lies within the part behind the first bytes.
 within : (done n : ℕ) (l : List ℕ) → n ≤ length (take (length l - done) (drop done l)) → n ≤ length l - done

@@ -1,13 +1,9 @@
 -- `list_accepted` meets its contract: the pages are made of the finished plan.
-use mathlib.Core.Path.{_≡_, refl}
+use mathlib.Core.Path.{refl}
 use Rattle.deskplan_text.proofs.PrintLaws.{printable, printed}
 use borrow.Author.Needs.{needs}
 use Rattle.deskplan_text.proofs.list_accepted.Statement.{statement}
 use Rattle.deskplan_text.proofs.list_accepted.Tie as tie
-use Rattle.deskplan_text.proofs.list_accepted.Reads as reads
-use Rattle.deskplan_text.proofs.list_accepted.Lts as lts
-use Rattle.deskplan_text.proofs.put_pages.Reads as put-pages-reads
-use Rattle.planner.proofs.finished.finish_plan.Reads as finish-plan-reads
 
 finish-plan-requires : tie.Need-finish-plan-requires
 finish-plan-requires c κs =

@@ -1,23 +1,14 @@
 -- `put_pages` meets its contract: piece lines, run lines and the total, each right behind the one before.
-use Prim.Native.Nat.{_+_, _*_, _≤_}
-use mathlib.Core.Path.{_≡_, refl, _∙_}
+use mathlib.Core.Path.{_∙_}
 use native.Mathlib.Omega.{arith}
 use mir.Syntax.{w32}
 use mir.ValLaws.{toZ-ofZ}
-use Rattle.listing.proofs.TextLaws.{puts-same, puts-then}
+use Rattle.listing.proofs.TextLaws.{puts-same}
 use Rattle.listing.proofs.PageLaws.{pieces-most}
-use Rattle.deskplan_text.specs.Promise.{pagesIn}
 use Rattle.deskplan_text.proofs.ListingLaws.{pages-put}
 use borrow.Author.Needs.{needs}
 use Rattle.deskplan_text.proofs.put_pages.Statement.{statement}
 use Rattle.deskplan_text.proofs.put_pages.Tie as tie
-use Rattle.deskplan_text.proofs.put_pages.Reads as reads
-use Rattle.deskplan_text.proofs.put_pages.Lts as lts
-use Rattle.listing.proofs.lines.put_total_line.Reads as put-total-line-reads
-use Rattle.listing.proofs.pages.put_piece_lines.Reads as put-piece-lines-reads
-use Rattle.listing.proofs.pages.put_run_lines.Reads as put-run-lines-reads
-use Rattle.output.proofs.figures.largest_finish.Reads as largest-finish-reads
-use Rattle.output.proofs.figures.worst_lateness.Reads as worst-lateness-reads
 
 put-piece-lines-requires : tie.Need-put-piece-lines-requires
 put-piece-lines-requires c κs =

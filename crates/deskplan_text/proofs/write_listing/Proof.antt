@@ -5,11 +5,6 @@ use Rattle.deskplan_text.proofs.ListingLaws.{listed-short, listed-refus
 use borrow.Author.Needs.{needs}
 use Rattle.deskplan_text.proofs.write_listing.Statement.{statement}
 use Rattle.deskplan_text.proofs.write_listing.Tie as tie
-use Rattle.deskplan_text.proofs.write_listing.Reads as reads
-use Rattle.deskplan_text.proofs.write_listing.Lts as lts
-use Rattle.deskplan_text.proofs.list_accepted.Reads as list-accepted-reads
-use Rattle.listing.proofs.lines.put_refused_line.Reads as put-refused-line-reads
-use Rattle.planner.proofs.judged.judge_file.Reads as judge-file-reads
 
 returns : tie.Need-returns
 returns c =

@@ -5,8 +5,6 @@ use mir.Facts.{toZ-pos}
 use borrow.Author.Needs.{needs}
 use Rattle.exports.proofs.count.Statement.{statement}
 use Rattle.exports.proofs.count.Tie as tie
-use Rattle.exports.proofs.count.Reads as reads
-use Rattle.exports.proofs.count.Lts as lts
 
 cast-result : tie.Need-cast-result
 cast-result c = search needs

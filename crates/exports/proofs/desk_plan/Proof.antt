@@ -1,5 +1,5 @@
 -- `desk_plan` meets its contract: each number of the answer fits, and stands in its place.
-use mathlib.Core.Path.{_≡_, refl, sym, ap, _∙_}
+use mathlib.Core.Path.{ap, _∙_}
 use native.Mathlib.Omega.{arith}
 use mir.Syntax.{w32, w64}
 use mir.ValLaws.{toZ-ofZ}
@@ -8,13 +8,6 @@ use Rattle.exports.proofs.Places.{plan-place, in-plan-row}
 use borrow.Author.Needs.{needs}
 use Rattle.exports.proofs.desk_plan.Statement.{statement}
 use Rattle.exports.proofs.desk_plan.Tie as tie
-use Rattle.exports.proofs.desk_plan.Reads as reads
-use Rattle.exports.proofs.desk_plan.Lts as lts
-use Rattle.exports.proofs.count.Reads as count-reads
-use Rattle.exports.proofs.place.Reads as place-reads
-use Rattle.exports.proofs.signed.Reads as signed-reads
-use Rattle.exports.proofs.small.Reads as small-reads
-use Rattle.planner.proofs.plan.plan.Reads as plan-reads
 
 plan-requires : tie.Need-plan-requires
 plan-requires c κs = search needs

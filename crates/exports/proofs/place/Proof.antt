@@ -4,8 +4,6 @@ use mir.Facts.{toZ-pos}
 use borrow.Author.Needs.{needs}
 use Rattle.exports.proofs.place.Statement.{statement}
 use Rattle.exports.proofs.place.Tie as tie
-use Rattle.exports.proofs.place.Reads as reads
-use Rattle.exports.proofs.place.Lts as lts
 
 cast-result : tie.Need-cast-result
 cast-result c = search needs

@@ -3,8 +3,6 @@ use mir.Syntax.{w32, w64}
 use mir.Facts.{toZ-ofZ, sfits-widen}
 use Rattle.exports.proofs.signed.Statement.{statement}
 use Rattle.exports.proofs.signed.Tie as tie
-use Rattle.exports.proofs.signed.Reads as reads
-use Rattle.exports.proofs.signed.Lts as lts
 
 cast-result : tie.Need-cast-result
 cast-result c = rw (toZ-ofZ (c .fits .x)) (sfits-widen tt (c .fits .x))

@@ -7,8 +7,6 @@ use Rattle.blocks.specs.Own.{OwnLinks}
 use Rattle.blocks.proofs.Owning.{own-none, own-more, from-elsewhere, to-elsewhere}
 use Rattle.blocks.proofs.own.own_links.Statement.{statement}
 use Rattle.blocks.proofs.own.own_links.Tie as tie
-use Rattle.blocks.proofs.own.own_links.Reads as reads
-use Rattle.blocks.proofs.own.own_links.Lts as lts
 
 abbrev Inv-loop : tie.InvT-loop
 Inv-loop m desk desks befores afters own-befores₀ own-afters₀ count₀ k₀ own-befores own-afters count k =

@@ -4,11 +4,6 @@ use Rattle.blocks.proofs.FromPlan.{laid-tied, laid-entered}
 use borrow.Author.Needs.{needs}
 use Rattle.blocks.proofs.planned.planned_sheet.Statement.{statement}
 use Rattle.blocks.proofs.planned.planned_sheet.Tie as tie
-use Rattle.blocks.proofs.planned.planned_sheet.Reads as reads
-use Rattle.blocks.proofs.planned.planned_sheet.Lts as lts
-use Rattle.blocks.proofs.own.own_links.Reads as own-links-reads
-use Rattle.blocks.proofs.sheet.desk_sheet.Reads as desk-sheet-reads
-use Rattle.ready.proofs.raise.raised_moments.Reads as raised-moments-reads
 
 raised-moments-requires : tie.Need-raised-moments-requires
 raised-moments-requires c κs = search needs

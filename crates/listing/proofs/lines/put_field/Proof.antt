@@ -1,15 +1,10 @@
 -- `put_field` meets its contract: the word, and its number right behind it.
-use Prim.Native.Nat.{_+_, _≤_}
 use native.Mathlib.Omega.{arith}
 use Rattle.listing.proofs.TextLaws.{puts-same}
 use Rattle.listing.proofs.LineLaws.{number-field}
 use borrow.Author.Needs.{needs}
 use Rattle.listing.proofs.lines.put_field.Statement.{statement}
 use Rattle.listing.proofs.lines.put_field.Tie as tie
-use Rattle.listing.proofs.lines.put_field.Reads as reads
-use Rattle.listing.proofs.lines.put_field.Lts as lts
-use Rattle.listing.proofs.text.put_bytes.Reads as put-bytes-reads
-use Rattle.listing.proofs.text.put_number.Reads as put-number-reads
 
 put-bytes-requires : tie.Need-put-bytes-requires
 put-bytes-requires c κs = omega (arith, c .before .before .before .pre .room, c .before .before .before .pre .short)

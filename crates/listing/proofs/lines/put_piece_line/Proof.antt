@@ -1,5 +1,4 @@
 -- `put_piece_line` meets its contract: its six fields, and the newline, one right behind the other.
-use Prim.Native.Nat.{_+_, _≤_}
 use native.Mathlib.Omega.{arith}
 use Rattle.rules.specs.Listing.{letters, field, signedField}
 use Rattle.listing.specs.Lines.{pieceText}
@@ -11,10 +10,6 @@ use Rattle.listing.proofs.LineLaws.{late-is}
 use borrow.Author.Needs.{needs}
 use Rattle.listing.proofs.lines.put_piece_line.Statement.{statement}
 use Rattle.listing.proofs.lines.put_piece_line.Tie as tie
-use Rattle.listing.proofs.lines.put_piece_line.Reads as reads
-use Rattle.listing.proofs.lines.put_piece_line.Lts as lts
-use Rattle.listing.proofs.lines.put_field.Reads as put-field-reads
-use Rattle.listing.proofs.lines.put_signed_field.Reads as put-signed-field-reads
 
 slice-aggregate-put-field : tie.Need-slice-aggregate-put-field
 slice-aggregate-put-field c = search needs

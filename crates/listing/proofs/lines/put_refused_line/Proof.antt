@@ -1,15 +1,11 @@
 -- `put_refused_line` meets its contract: the number and the place, and the newline, one right behind the other.
-use Prim.Native.Nat.{_+_, _≤_}
 use native.Mathlib.Omega.{arith}
-use Rattle.rules.specs.Listing.{letters, field, signedField}
+use Rattle.rules.specs.Listing.{letters, field}
 use Rattle.listing.specs.Lines.{refusedText}
 use Rattle.listing.proofs.LineLaws.{no-field, then-field, then-newline, newline-same}
 use borrow.Author.Needs.{needs}
 use Rattle.listing.proofs.lines.put_refused_line.Statement.{statement}
 use Rattle.listing.proofs.lines.put_refused_line.Tie as tie
-use Rattle.listing.proofs.lines.put_refused_line.Reads as reads
-use Rattle.listing.proofs.lines.put_refused_line.Lts as lts
-use Rattle.listing.proofs.lines.put_field.Reads as put-field-reads
 
 slice-aggregate-put-field : tie.Need-slice-aggregate-put-field
 slice-aggregate-put-field c = search needs

@@ -1,5 +1,4 @@
 -- `put_signed_field` meets its contract: the word, and its signed number right behind it.
-use Prim.Native.Nat.{_+_, _≤_}
 use mir.Facts.{toZ-ofZ}
 use native.Mathlib.Omega.{arith}
 use Rattle.listing.proofs.TextLaws.{puts-same}
@@ -7,10 +6,6 @@ use Rattle.listing.proofs.LineLaws.{signed-field}
 use borrow.Author.Needs.{needs}
 use Rattle.listing.proofs.lines.put_signed_field.Statement.{statement}
 use Rattle.listing.proofs.lines.put_signed_field.Tie as tie
-use Rattle.listing.proofs.lines.put_signed_field.Reads as reads
-use Rattle.listing.proofs.lines.put_signed_field.Lts as lts
-use Rattle.listing.proofs.text.put_bytes.Reads as put-bytes-reads
-use Rattle.listing.proofs.text.put_signed.Reads as put-signed-reads
 
 put-bytes-requires : tie.Need-put-bytes-requires
 put-bytes-requires c κs = omega (arith, c .before .before .before .pre .room, c .before .before .before .pre .short)

@@ -1,18 +1,12 @@
 -- `put_total_line` meets its contract: its four fields, and the newline, one right behind the other.
-use Prim.Native.Nat.{_+_, _≤_}
 use native.Mathlib.Omega.{arith}
 use Rattle.rules.specs.Listing.{letters, field, signedField}
 use Rattle.listing.specs.Lines.{totalText}
 use Rattle.listing.proofs.LineLaws.{no-field, then-field, then-newline, newline-same}
-use mir.Syntax.{w32}
-use mir.Facts.{toZ-ofZ, toZ-pos}
+use mir.Facts.{toZ-ofZ}
 use borrow.Author.Needs.{needs}
 use Rattle.listing.proofs.lines.put_total_line.Statement.{statement}
 use Rattle.listing.proofs.lines.put_total_line.Tie as tie
-use Rattle.listing.proofs.lines.put_total_line.Reads as reads
-use Rattle.listing.proofs.lines.put_total_line.Lts as lts
-use Rattle.listing.proofs.lines.put_field.Reads as put-field-reads
-use Rattle.listing.proofs.lines.put_signed_field.Reads as put-signed-field-reads
 
 slice-aggregate-put-field : tie.Need-slice-aggregate-put-field
 slice-aggregate-put-field c = search needs

@@ -1,6 +1,6 @@
 -- `put_desk_lines` meets its contract: run by run, each line right behind the ones before.
-use Prim.Native.Nat.{_+_, _-_, _*_, _≤_}
-use mathlib.Core.Path.{_≡_, refl, _∙_}
+use Prim.Native.Nat.{_-_, _≤_}
+use mathlib.Core.Path.{_≡_}
 use native.Mathlib.Omega.{arith}
 use Rattle.listing.specs.Puts.{Puts}
 use Rattle.listing.specs.Lines.{deskLinesIn, runLineIn}
@@ -8,9 +8,6 @@ use Rattle.listing.proofs.TextLaws.{puts-same}
 use Rattle.listing.proofs.PageLaws.{no-run-yet, logged-more, line-more, grown}
 use Rattle.listing.proofs.pages.put_desk_lines.Statement.{statement}
 use Rattle.listing.proofs.pages.put_desk_lines.Tie as tie
-use Rattle.listing.proofs.pages.put_desk_lines.Reads as reads
-use Rattle.listing.proofs.pages.put_desk_lines.Lts as lts
-use Rattle.listing.proofs.pages.put_logged_line.Reads as put-logged-line-reads
 
 abbrev Inv-loop : tie.InvT-loop
 Inv-loop desk count desks pieces froms untils at text₀ next₀ k₀ text next k =

@@ -1,15 +1,9 @@
 -- `put_logged_line` meets its contract: the run is the desk's and its line is put, or it is passed.
-use Prim.Native.Nat.{_+_, _-_, _*_, _≤_}
-use mathlib.Core.Path.{_≡_, refl, _∙_}
-use native.Mathlib.Omega.{arith}
 use borrow.Author.Tests.{eq-eqb, ne-eqb}
 use Rattle.listing.proofs.PageLaws.{own-line, no-line}
 use borrow.Author.Needs.{needs}
 use Rattle.listing.proofs.pages.put_logged_line.Statement.{statement}
 use Rattle.listing.proofs.pages.put_logged_line.Tie as tie
-use Rattle.listing.proofs.pages.put_logged_line.Reads as reads
-use Rattle.listing.proofs.pages.put_logged_line.Lts as lts
-use Rattle.listing.proofs.lines.put_run_line.Reads as put-run-line-reads
 
 mul-piece : tie.Need-mul-piece
 mul-piece c = search needs

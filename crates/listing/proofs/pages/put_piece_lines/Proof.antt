@@ -1,5 +1,5 @@
 -- `put_piece_lines` meets its contract: piece by piece, each line right behind the ones before.
-use Prim.Native.Nat.{_+_, _-_, _*_, _≤_}
+use Prim.Native.Nat.{_-_, _≤_}
 use mathlib.Core.Path.{_≡_, refl, _∙_}
 use native.Mathlib.Omega.{arith}
 use mir.Syntax.{w32}
@@ -13,9 +13,6 @@ use Rattle.listing.proofs.TextLaws.{puts-same}
 use Rattle.listing.proofs.PageLaws.{no-piece-yet, pieces-more, pieces-most, line-more}
 use Rattle.listing.proofs.pages.put_piece_lines.Statement.{statement}
 use Rattle.listing.proofs.pages.put_piece_lines.Tie as tie
-use Rattle.listing.proofs.pages.put_piece_lines.Reads as reads
-use Rattle.listing.proofs.pages.put_piece_lines.Lts as lts
-use Rattle.listing.proofs.lines.put_piece_line.Reads as put-piece-line-reads
 
 abbrev Inv-loop : tie.InvT-loop
 Inv-loop n desks starts finishes latests at text₀ next₀ i₀ text next i =

@@ -1,5 +1,5 @@
 -- `put_run_lines` meets its contract: desk by desk, each desk's lines right behind those before.
-use Prim.Native.Nat.{_+_, _-_, _≤_}
+use Prim.Native.Nat.{_-_, _≤_}
 use mathlib.Core.Path.{_≡_}
 use native.Mathlib.Omega.{arith}
 use Rattle.listing.specs.Puts.{Puts}
@@ -8,9 +8,6 @@ use Rattle.listing.proofs.TextLaws.{puts-same}
 use Rattle.listing.proofs.PageLaws.{no-desk-yet, desks-more, line-more, desk-room}
 use Rattle.listing.proofs.pages.put_run_lines.Statement.{statement}
 use Rattle.listing.proofs.pages.put_run_lines.Tie as tie
-use Rattle.listing.proofs.pages.put_run_lines.Reads as reads
-use Rattle.listing.proofs.pages.put_run_lines.Lts as lts
-use Rattle.listing.proofs.pages.put_desk_lines.Reads as put-desk-lines-reads
 
 abbrev Inv-loop : tie.InvT-loop
 Inv-loop count desks pieces froms untils at text₀ next₀ desk₀ text next desk =

@@ -1,5 +1,5 @@
 -- `put_digits` meets its contract, case by case of the definition; what falls is the number of digits that may still come.
-use mathlib.Core.Path.{_≡_, refl, sym, ap, _∙_}
+use mathlib.Core.Path.{_≡_, _∙_}
 use native.Mathlib.Omega.{arith}
 use lib.ListN.{length-set}
 use Rattle.listing.proofs.TextLaws.{puts-none, puts-byte, puts-same, no-digits, one-digit, more-digits, few-digits}

@@ -1,14 +1,12 @@
 -- `put_bytes` meets its contract: byte by byte, each right behind the one before.
 use Prim.Native.Nat.{_≤_, _-_, _+_}
-use mathlib.Core.Path.{_≡_, refl, sym, ap, _∙_}
+use mathlib.Core.Path.{_≡_, refl, ap, _∙_}
 use native.Mathlib.Omega.{arith}
 use lib.ListN.{length, getD, take, set, length-set}
 use lib.Seq.{sets, take-length}
 use Rattle.listing.proofs.TextLaws.{puts-more}
 use Rattle.listing.proofs.text.put_bytes.Statement.{statement}
 use Rattle.listing.proofs.text.put_bytes.Tie as tie
-use Rattle.listing.proofs.text.put_bytes.Reads as reads
-use Rattle.listing.proofs.text.put_bytes.Lts as lts
 
 abbrev Inv-loop : tie.InvT-loop
 Inv-loop text₀ at bytes k₀ text k =

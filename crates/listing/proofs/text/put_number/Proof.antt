@@ -3,9 +3,6 @@ use Rattle.rules.specs.Listing.{digits}
 use borrow.Author.Needs.{needs}
 use Rattle.listing.proofs.text.put_number.Statement.{statement}
 use Rattle.listing.proofs.text.put_number.Tie as tie
-use Rattle.listing.proofs.text.put_number.Reads as reads
-use Rattle.listing.proofs.text.put_number.Lts as lts
-use Rattle.listing.proofs.text.put_digits.Reads as put-digits-reads
 
 put-digits-requires : tie.Need-put-digits-requires
 put-digits-requires c κs = search needs

@@ -1,22 +1,17 @@
 -- `put_signed` meets its contract: below zero a minus sign, and then what it is below zero.
-use Prim.Native.Nat.{_+_, _<_}
-use mathlib.Core.List.{[], _∷_}
-use mathlib.Core.Path.{_≡_, refl, sym, ap, _∙_}
+use Prim.Native.Nat.{_+_}
+use mathlib.Core.Path.{ap, _∙_}
 use native.Mathlib.Omega.{arith}
 use lib.IntN.{pos, negsuc, natAbs, _-ℤ_}
 use lib.ListN.{length-set}
 use mir.Syntax.{w32}
 use mir.Val.{SFits, toZ, ofZ}
 use mir.Facts.{toZ-ofZ}
-use Rattle.rules.specs.Listing.{digits, signedDigits}
 use Rattle.records.proofs.TwosComplement.{negative, from-minus-one, not-negative}
 use Rattle.listing.proofs.TextLaws.{puts-same, puts-minus, puts-plus}
 use borrow.Author.Needs.{needs}
 use Rattle.listing.proofs.text.put_signed.Statement.{statement}
 use Rattle.listing.proofs.text.put_signed.Tie as tie
-use Rattle.listing.proofs.text.put_signed.Reads as reads
-use Rattle.listing.proofs.text.put_signed.Lts as lts
-use Rattle.listing.proofs.text.put_number.Reads as put-number-reads
 
 slice-write-text : tie.Need-slice-write-text
 slice-write-text c = search needs

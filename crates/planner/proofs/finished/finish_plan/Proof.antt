@@ -2,10 +2,6 @@
 use Rattle.planner.proofs.WriteLaws.{to-time, given-here, finished-here}
 use Rattle.planner.proofs.finished.finish_plan.Statement.{statement}
 use Rattle.planner.proofs.finished.finish_plan.Tie as tie
-use Rattle.planner.proofs.finished.finish_plan.Reads as reads
-use Rattle.planner.proofs.finished.finish_plan.Lts as lts
-use Rattle.links.proofs.moments.latest_moments.Reads as latest-moments-reads
-use Rattle.urgency.proofs.plan.Reads as plan-reads
 
 latest-moments-requires : tie.Need-latest-moments-requires
 latest-moments-requires c κs = to-time _ _ _ _ _ _ _ _ _ (c .before .pre .0) _ (c .before .pre .1 .1)

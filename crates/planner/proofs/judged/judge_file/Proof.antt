@@ -6,10 +6,6 @@ use Rattle.planner.proofs.JudgedLaws.{judged-refused, judged-ties, judg
 use borrow.Author.Needs.{needs}
 use Rattle.planner.proofs.judged.judge_file.Statement.{statement}
 use Rattle.planner.proofs.judged.judge_file.Tie as tie
-use Rattle.planner.proofs.judged.judge_file.Reads as reads
-use Rattle.planner.proofs.judged.judge_file.Lts as lts
-use Rattle.links.proofs.rings.ring_check.Reads as ring-check-reads
-use Rattle.reader.proofs.read_job.Reads as read-job-reads
 
 read-job-requires : tie.Need-read-job-requires
 read-job-requires c κs = search needs

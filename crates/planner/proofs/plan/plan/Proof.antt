@@ -3,11 +3,6 @@ use Rattle.planner.proofs.WriteLaws.{accepted-here, planable-here, refu
 use borrow.Author.Needs.{needs}
 use Rattle.planner.proofs.plan.plan.Statement.{statement}
 use Rattle.planner.proofs.plan.plan.Tie as tie
-use Rattle.planner.proofs.plan.plan.Reads as reads
-use Rattle.planner.proofs.plan.plan.Lts as lts
-use Rattle.planner.proofs.judged.judge_file.Reads as judge-file-reads
-use Rattle.planner.proofs.plan.plan_accepted.Reads as plan-accepted-reads
-use Rattle.planner.proofs.plan.refused.Reads as refused-reads
 
 judge-file-requires : tie.Need-judge-file-requires
 judge-file-requires c κs = search needs

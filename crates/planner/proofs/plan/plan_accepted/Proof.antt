@@ -4,10 +4,6 @@ use Rattle.planner.proofs.WriteLaws.{answered-short}
 use borrow.Author.Needs.{needs}
 use Rattle.planner.proofs.plan.plan_accepted.Statement.{statement}
 use Rattle.planner.proofs.plan.plan_accepted.Tie as tie
-use Rattle.planner.proofs.plan.plan_accepted.Reads as reads
-use Rattle.planner.proofs.plan.plan_accepted.Lts as lts
-use Rattle.planner.proofs.plan.refused.Reads as refused-reads
-use Rattle.planner.proofs.plan.write_plan.Reads as write-plan-reads
 
 mul-if1 : tie.Need-mul-if1
 mul-if1 c = search needs

@@ -1,7 +1,5 @@
 -- `write_plan` meets its contract: the records and figures are made of the finished plan.
-use Prim.Native.Nat.{_+_, _*_}
-use mathlib.Core.Path.{_≡_, refl, sym, ap, _∙_}
-use native.Mathlib.Omega.{arith}
+use mathlib.Core.Path.{refl, _∙_}
 use mir.Syntax.{w32}
 use mir.ValLaws.{toZ-ofZ}
 use Rattle.planner.proofs.PlanLaws.{answer-here, runs-fit-behind, plan-kept}
@@ -9,13 +7,6 @@ use Rattle.planner.proofs.WriteLaws.{few-pieces, log-fits, bounded-here
 use borrow.Author.Needs.{needs}
 use Rattle.planner.proofs.plan.write_plan.Statement.{statement}
 use Rattle.planner.proofs.plan.write_plan.Tie as tie
-use Rattle.planner.proofs.plan.write_plan.Reads as reads
-use Rattle.planner.proofs.plan.write_plan.Lts as lts
-use Rattle.output.proofs.figures.largest_finish.Reads as largest-finish-reads
-use Rattle.output.proofs.figures.worst_lateness.Reads as worst-lateness-reads
-use Rattle.output.proofs.results.put_results.Reads as put-results-reads
-use Rattle.output.proofs.runs.put_runs.Reads as put-runs-reads
-use Rattle.planner.proofs.finished.finish_plan.Reads as finish-plan-reads
 
 finish-plan-requires : tie.Need-finish-plan-requires
 finish-plan-requires c κs =

@@ -10,9 +10,6 @@ use Rattle.sheets.specs.Listed.{recordsIn}
 use Rattle.sheets.proofs.RecordLaws.{none-put, one-put}
 use Rattle.sheets.proofs.rows.put_blocks.Statement.{statement}
 use Rattle.sheets.proofs.rows.put_blocks.Tie as tie
-use Rattle.sheets.proofs.rows.put_blocks.Reads as reads
-use Rattle.sheets.proofs.rows.put_blocks.Lts as lts
-use Rattle.records.proofs.put.put_record.Reads as put-record-reads
 
 abbrev Inv-loop : tie.InvT-loop
 Inv-loop desk count counts starts ends buffer₀ k₀ buffer k =

@@ -1,5 +1,5 @@
 -- `put_runs` meets its contract: each record is stored right behind the ones before it.
-use Prim.Native.Nat.{_≤_, _-_, _*_}
+use Prim.Native.Nat.{_≤_, _-_}
 use mathlib.Core.Path.{_≡_, refl, _∙_}
 use native.Mathlib.Omega.{arith}
 use borrow.Author.Needs.{needs}
@@ -9,9 +9,6 @@ use Rattle.sheets.specs.Listed.{recordsIn}
 use Rattle.sheets.proofs.RecordLaws.{none-put, one-put}
 use Rattle.sheets.proofs.rows.put_runs.Statement.{statement}
 use Rattle.sheets.proofs.rows.put_runs.Tie as tie
-use Rattle.sheets.proofs.rows.put_runs.Reads as reads
-use Rattle.sheets.proofs.rows.put_runs.Lts as lts
-use Rattle.records.proofs.put.put_record.Reads as put-record-reads
 
 abbrev Inv-loop : tie.InvT-loop
 Inv-loop desk count pieces froms untils at buffer₀ k₀ buffer k =

@@ -4,11 +4,6 @@ use Rattle.sheets.proofs.Promised.{sheet-refused}
 use borrow.Author.Needs.{needs}
 use Rattle.sheets.proofs.sheet.block_sheet.Statement.{statement}
 use Rattle.sheets.proofs.sheet.block_sheet.Tie as tie
-use Rattle.sheets.proofs.sheet.block_sheet.Reads as reads
-use Rattle.sheets.proofs.sheet.block_sheet.Lts as lts
-use Rattle.planner.proofs.judged.judge_file.Reads as judge-file-reads
-use Rattle.sheets.proofs.sheet.refused.Reads as refused-reads
-use Rattle.sheets.proofs.sheet.sheet_accepted.Reads as sheet-accepted-reads
 
 judge-file-requires : tie.Need-judge-file-requires
 judge-file-requires c κs = search needs

@@ -3,10 +3,6 @@ use mathlib.Core.Path.{refl}
 use Rattle.sheets.proofs.FilledLaws.{laid-here}
 use Rattle.sheets.proofs.sheet.fill_sheet.Statement.{statement}
 use Rattle.sheets.proofs.sheet.fill_sheet.Tie as tie
-use Rattle.sheets.proofs.sheet.fill_sheet.Reads as reads
-use Rattle.sheets.proofs.sheet.fill_sheet.Lts as lts
-use Rattle.blocks.proofs.planned.planned_sheet.Reads as planned-sheet-reads
-use Rattle.planner.proofs.finished.finish_plan.Reads as finish-plan-reads
 
 finish-plan-requires : tie.Need-finish-plan-requires
 finish-plan-requires c κs =

@@ -5,10 +5,6 @@ use Rattle.sheets.proofs.Promised.{sheet-no-desk, sheet-short}
 use borrow.Author.Needs.{needs}
 use Rattle.sheets.proofs.sheet.sheet_accepted.Statement.{statement}
 use Rattle.sheets.proofs.sheet.sheet_accepted.Tie as tie
-use Rattle.sheets.proofs.sheet.sheet_accepted.Reads as reads
-use Rattle.sheets.proofs.sheet.sheet_accepted.Lts as lts
-use Rattle.sheets.proofs.sheet.refused.Reads as refused-reads
-use Rattle.sheets.proofs.sheet.write_sheet.Reads as write-sheet-reads
 
 refused-requires : tie.Need-refused-requires
 refused-requires c κs = search needs

@@ -1,5 +1,4 @@
 -- `write_sheet` meets its contract: the sheet has room in the lent buffer, and what is written and answered is the page's.
-use Prim.Native.Nat.{_+_, _*_}
 use mathlib.Core.Path.{refl}
 use native.Mathlib.Omega.{arith}
 use mir.Syntax.{w32}
@@ -10,11 +9,6 @@ use Rattle.sheets.proofs.Promised.{sheet-kept}
 use borrow.Author.Needs.{needs}
 use Rattle.sheets.proofs.sheet.write_sheet.Statement.{statement}
 use Rattle.sheets.proofs.sheet.write_sheet.Tie as tie
-use Rattle.sheets.proofs.sheet.write_sheet.Reads as reads
-use Rattle.sheets.proofs.sheet.write_sheet.Lts as lts
-use Rattle.sheets.proofs.rows.put_blocks.Reads as put-blocks-reads
-use Rattle.sheets.proofs.rows.put_runs.Reads as put-runs-reads
-use Rattle.sheets.proofs.sheet.fill_sheet.Reads as fill-sheet-reads
 
 fill-sheet-requires : tie.Need-fill-sheet-requires
 fill-sheet-requires c κs =
