@@ -12,6 +12,8 @@ use Rattle.rules.specs.declared.Piece.{Piece}
 use Rattle.rules.specs.declared.Link.{Link}
 use Rattle.rules.specs.declared.Item.{Item}
 use Rattle.rules.specs.declared.Item.the-variants.{Work, Tie, Stop, Done}
+use Rattle.reader.specs.Outcome.{endOf}
+use Rattle.reader.specs.declared.Read.the-variants.{Job}
 
 none-of : (a b c x : ℕ) → (x ≡ a → ⊥) → (x ≡ b → ⊥) → (x ≡ c → ⊥) → OneOf (a ∷ b ∷ c ∷ []) x → ⊥
 none-of a b c x f g h k = ⊎-elim f (λ w. ⊎-elim g h w) k
@@ -31,10 +33,10 @@ no-tie i k l h =
     let e : tag i ≡ 1 = ap tag h in
     none-of 0 2 3 (tag i) (omega arith) (omega arith) (omega arith) k
 
--- No refusal, no piece and no link: the end.
-pub at-end : (i : Item) → OneOf (0 ∷ 1 ∷ 3 ∷ []) (tag i) → ((p : Piece) → i ≡ Work p → ⊥) →
-    ((l : Link) → i ≡ Tie l → ⊥) → i ≡ Done
-at-end (Work p) k w t = absurd (w p refl)
-at-end (Tie l) k w t = absurd (t l refl)
-at-end (Stop r) k w t = absurd (none-of 0 1 3 2 (omega arith) (omega arith) (omega arith) k)
-at-end Done k w t = refl
+-- No refusal: the job.
+pub no-stop : (i : Item) (n m : ℕ) → OneOf (0 ∷ 1 ∷ 3 ∷ []) (tag i) → Job n m ≡ endOf i n m
+unfolding endOf
+no-stop (Work p) n m k = refl
+no-stop (Tie l) n m k = refl
+no-stop (Stop r) n m k = absurd (none-of 0 1 3 2 (omega arith) (omega arith) (omega arith) k)
+no-stop Done n m k = refl

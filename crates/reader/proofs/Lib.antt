@@ -4,6 +4,5 @@ pub mod Tables
 pub mod Rest
 pub mod Taken
 pub mod Answers
-pub mod Whole
 pub mod Refusals
 pub mod Callers

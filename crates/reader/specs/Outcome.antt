@@ -5,6 +5,8 @@ use mathlib.Core.Path.{_≡_}
 use Rattle.rules.specs.Job.{Outcome, refused, accepted}
 use Rattle.rules.specs.Reading.{readJob}
 use Rattle.rules.specs.Tables.{jobIn}
+use Rattle.rules.specs.declared.Item.{Item}
+use Rattle.rules.specs.declared.Item.the-variants.{Work, Tie, Stop, Done}
 use Rattle.reader.specs.Sizes.{PieceTables, LinkTables}
 use Rattle.reader.specs.declared.Read.{Read}
 use Rattle.reader.specs.declared.Read.the-variants.{Job, Refused}
@@ -13,6 +15,13 @@ abbrev pub outcomeOf : Read → List ℕ → List ℕ → List ℕ → List ℕ 
 outcomeOf (Job n m) desks durations releases dues befores afters handovers =
     accepted (jobIn n m desks durations releases dues befores afters handovers)
 outcomeOf (Refused r) desks durations releases dues befores afters handovers = refused r
+
+-- The answer that an item ends the reading with, behind so many pieces and links.
+unfoldable pub endOf : Item → ℕ → ℕ → Read
+endOf (Stop r) n m = Refused r
+endOf (Work p) n m = Job n m
+endOf (Tie l) n m = Job n m
+endOf Done n m = Job n m
 
 -- The counts of an accepted job stay within the tables.
 abbrev pub Few : Read → Type 0
