@@ -27,10 +27,10 @@ fn goes_first(latests: &[i32; 256], i: usize, x: usize) -> bool
     if a < b {
         return true;
     }
-    if b < a {
-        return false;
+    if a == b {
+        return i < x;
     }
-    i < x
+    false
 }
 
 // Piece i is put up for desk d. A desk that nobody asked for yet joins those that work.
