@@ -1,5 +1,5 @@
 -- What a look at the open pieces makes of the tables, piece by piece.
-pub mod Keeping
+pub mod Places
 pub mod Desks
 pub mod Looking
 pub mod Ends

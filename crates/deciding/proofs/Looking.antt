@@ -41,24 +41,6 @@ module _ (v : View) (S T : ℕ → Type 0) (up : (j : ℕ) → S j → T j) wher
     first = λ j m a ne. b .first j (down j m a) a ne;
   })
 
-  -- The same pieces, said otherwise.
-  pub looked-same : (count : ℕ) (chosen busy : List ℕ) (next : ℕ) → ((j : ℕ) → T j → S j)
-      → LookedAt v S count chosen busy next → LookedAt v T count chosen busy next
-  looked-same count chosen busy next down l = record {
-    choices = λ d h. passed-over d (getD chosen d 0) (λ j m a. down j m) (l .choices d h);
-    working = l .working;
-    later = record {
-      most = l .later .most;
-      above = l .later .above;
-      counts = λ j m. l .later .counts j (down j m);
-      from = goes (l .later .from);
-    };
-  }
-    where
-      goes : (next ≡ never) ⊎ ((j : ℕ) × S j) → (next ≡ never) ⊎ ((j : ℕ) × T j)
-      goes (inl e) = inl e
-      goes (inr w) = inr (w .0, up (w .0) (w .1))
-
   module _ (i : ℕ) (own : T i) (split : (j : ℕ) → T j → S j ⊎ (j ≡ i)) where
     -- All but i are of S.
     older : (P : ℕ → Type 0) (j : ℕ) → T j → (S j → P j) → P i → P j

@@ -1,18 +1,17 @@
 // One decision of the plan over lent tables: who every desk works on from a moment on, and until when nothing is decided
-// anew. It looks at the open pieces alone, those in the first places of `table`, and drops the finished ones of them.
-// 256 stands for no piece, and 4,294,967,295 for no later moment.
+// anew. It looks at the open pieces alone, those in the first places of `table`. 256 stands for no piece, and 4,294,967,295 for no later moment.
+ghost use mathlib.Core.List.{List};
 ghost use mathlib.Core.Path.{_≡_};
 ghost use Prim.Native.Nat.{ℕ, _<_, _≤_};
 ghost use lib.ListN.{length, getD};
 ghost use Rattle.steps.specs.Choice.{view, goesFirst, picks, offered, Busy, endNext, LookedAt, Decided};
-ghost use Rattle.steps.specs.Opening.{Among, Lookable, Kept};
+ghost use Rattle.steps.specs.Opening.{Among, Lookable};
 
 // No later moment.
 pub const NEVER: u32 = 4294967295;
 
-// What a look at the open pieces finds: how many are left of them, how many desks work, and the next moment.
+// What a look at the open pieces finds: how many desks work, and the next moment.
 pub struct Look {
-    pub opened: usize,
     pub count: usize,
     pub next: u32,
 }
@@ -27,10 +26,10 @@ fn goes_first(latests: &[i32; 256], i: usize, x: usize) -> bool
     if a < b {
         return true;
     }
-    if b < a {
-        return false;
+    if a == b {
+        return i < x;
     }
-    i < x
+    false
 }
 
 // Piece i is put up for desk d. A desk that nobody asked for yet joins those that work.
@@ -59,35 +58,30 @@ fn offer(
 }
 
 // One pass over the open pieces: chooses for every desk, and gives the first later moment at which a piece becomes
-// ready. The last piece takes the place of one that is finished.
+// ready.
 fn choose(
     t: u32,
     opened: usize,
     desks: &[u8; 256],
     latests: &[i32; 256],
-    left: &[u32; 256],
     ready: &[u32; 256],
-    table: &mut [u16; 256],
+    table: &[u16; 256],
     chosen: &mut [u16; 32],
     busy: &mut [u16; 32],
 ) -> Look
     requires { ⌜ Lookable opened (now table) (now desks) ⌝ }
     requires { ⌜ (length (now busy) ≡ 32) × (length (now chosen) ≡ 32)
         × ((d : ℕ) → d < 32 → getD (now chosen) d 0 ≡ 256) ⌝ }
-    ensures { λ r. ⌜ Kept (now (left .entry)) opened (now (table .entry)) (r .opened) (r .opened) (now (table .exit))
-        × LookedAt (view t (now (desks .entry)) (now (latests .entry)) (now (left .entry)) (now (ready .entry)))
-        (Among (now (table .exit)) (r .opened)) (r .count) (now (chosen .exit)) (now (busy .exit)) (r .next) ⌝ }
+    ensures { λ r. ⌜ ((left : List ℕ)
+        → LookedAt (view t (now (desks .entry)) (now (latests .entry)) left (now (ready .entry)))
+        (Among (now (table .entry)) opened) (r .count) (now (chosen .exit)) (now (busy .exit)) (r .next)) ⌝ }
 {
-    let mut kept = opened;
     let mut count = 0;
     let mut next = NEVER;
     let mut k = 0;
-    while k < kept {
+    while k < opened {
         let i = table[k] as usize;
-        if left[i] == 0 {
-            kept -= 1;
-            table[k] = table[kept];
-        } else if t < ready[i] {
+        if t < ready[i] {
             next = numbers::lesser(next, ready[i]);
             k += 1;
         } else {
@@ -96,7 +90,6 @@ fn choose(
         }
     }
     Look {
-        opened: kept,
         count: count,
         next: next,
     }
@@ -134,21 +127,20 @@ pub fn decide(
     latests: &[i32; 256],
     left: &[u32; 256],
     ready: &[u32; 256],
-    table: &mut [u16; 256],
+    table: &[u16; 256],
     chosen: &mut [u16; 32],
     busy: &mut [u16; 32],
 ) -> Look
     requires { ⌜ Lookable opened (now table) (now desks) ⌝ }
     requires { ⌜ (length (now busy) ≡ 32) × (t < 4294967295) ⌝ }
-    ensures { λ r. ⌜ Kept (now (left .entry)) opened (now (table .entry)) (r .opened) (r .opened) (now (table .exit))
-        × Decided (view t (now (desks .entry)) (now (latests .entry)) (now (left .entry)) (now (ready .entry)))
-        (Among (now (table .exit)) (r .opened)) (r .count) (now (chosen .exit)) (now (busy .exit)) (r .next) ⌝ }
+    ensures { λ r. ⌜ Decided (view t (now (desks .entry)) (now (latests .entry)) (now (left .entry))
+        (now (ready .entry)))
+        (Among (now (table .entry)) opened) (r .count) (now (chosen .exit)) (now (busy .exit)) (r .next) ⌝ }
 {
     *chosen = [256; 32];
-    let look = choose(t, opened, desks, latests, left, ready, table, chosen, busy);
+    let look = choose(t, opened, desks, latests, ready, table, chosen, busy);
     let next = first_end(t, look.next, look.count, left, chosen, busy);
     Look {
-        opened: look.opened,
         count: look.count,
         next: next,
     }

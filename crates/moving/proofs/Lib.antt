@@ -3,3 +3,6 @@ pub mod Worked
 pub mod Noted
 pub mod Passed
 pub mod Opened
+pub mod Closed
+pub mod Marked
+pub mod Spent

@@ -1,6 +1,7 @@
 -- The open pieces while links are passed: a piece that waits for none any more is put behind them, and there is room for
 -- it; the same pieces are open where the same wait for none.
 use Prim.Native.Nat.{ℕ, suc, _+_, _-_, _≤_, _<_}
+use mathlib.Core.Bool.{Bool, true}
 use mathlib.Core.List.{List}
 use mathlib.Core.Path.{_≡_, refl, sym, ap, _∙_}
 use native.Mathlib.Omega.{arith}
@@ -13,9 +14,15 @@ use Rattle.links.specs.Links.{counted}
 use Rattle.links.proofs.Counting.{counted-same, counted-one, counted-most}
 use Rattle.steps.specs.Opening.{Among, Opening, Room, Opens}
 
+-- No more are open than there are pieces.
+pub opened-few : (n opened : ℕ) (table place : List ℕ) (U : ℕ → Bool) (waits : List ℕ)
+    → Opening n opened table place U waits → opened ≤ n
+opened-few n opened table place U waits o =
+    omega (arith, o .room, counted-most (λ i. eqb (getD waits i 0) 0) n)
+
 -- Piece a waits for one less.
-module _ (n opened a : ℕ) (table left waits : List ℕ) (o : Opening n opened table left waits) (few : n ≤ 256)
-    (one : a < n) where
+module _ (n opened a : ℕ) (table place : List ℕ) (U : ℕ → Bool) (waits : List ℕ)
+    (o : Opening n opened table place U waits) (few : n ≤ 256) (one : a < n) where
   abbrev fewer : List ℕ
   fewer = set waits a (getD waits a 0 - 1)
 
@@ -25,10 +32,17 @@ module _ (n opened a : ℕ) (table left waits : List ℕ) (o : Opening n opened 
   other : (i : ℕ) → (i ≡ a → ⊥) → getD fewer i 0 ≡ getD waits i 0
   other i ne = getD-set-other waits a i (getD waits a 0 - 1) 0 ne
 
+  -- Who waits now waited before.
+  waited : (i : ℕ) → 0 < getD fewer i 0 → 0 < getD waits i 0
+  waited i h = by-test (eqb i a)
+      (λ e. let z : i ≡ a = eqb-true i a e in rw z (omega (arith, own, rw z at h)))
+      (λ e. rw (other i (eqb-false i a e)) at h)
+
   -- It waits on, or waited for none already.
-  pub waits-on : (getD waits a 0 ≡ 1 → ⊥) → Opening n opened table left fewer
+  pub waits-on : (getD waits a 0 ≡ 1 → ⊥) → Opening n opened table place U fewer
   waits-on ne = record {
     sized = o .sized;
+    place-sized = o .place-sized;
     waits-sized = length-set waits a (getD waits a 0 - 1) ∙ o .waits-sized;
     room = omega (
       arith,
@@ -38,7 +52,10 @@ module _ (n opened a : ℕ) (table left waits : List ℕ) (o : Opening n opened 
     );
     inside = o .inside;
     idle = λ q h. eqb-true _ 0 (sym (alike (getD table q 0)) ∙ eq-eqb _ 0 (o .idle q h));
+    placed = o .placed;
+    fresh = o .fresh;
     everyone = λ i h z u. o .everyone i h (eqb-true _ 0 (alike i ∙ eq-eqb _ 0 z)) u;
+    whole = λ i h w. o .whole i h (waited i w);
   }
     where
       same : eqb (getD waits a 0) 0 ≡ eqb (getD waits a 0 - 1) 0
@@ -88,12 +105,26 @@ module _ (n opened a : ℕ) (table left waits : List ℕ) (o : Opening n opened 
         (λ e. let l = ltb-true q opened e in rw (earlier q l) (f q l))
         (λ e. let z : q ≡ opened = omega (arith, ltb-false q opened e) in rw (z, behind) g)
 
-    pub opens : Opening n (opened + 1) (set table opened a) left fewer
+    -- Its place is noted, and the others keep theirs, since it was not among them.
+    place-last : getD (set place a opened) a 0 ≡ opened
+    place-last = getD-set-same place a opened 0 (omega (arith, o .place-sized))
+
+    place-same : (q : ℕ) → q < opened → getD (set place a opened) (getD table q 0) 0 ≡ q
+    place-same q h =
+        getD-set-other place a (getD table q 0) opened 0 (λ z. absurd (omega (arith, rw z at (o .idle q h)))) ∙ o .placed q h
+
+    pub opens : Opening n (opened + 1) (set table opened a) (set place a opened) U fewer
     opens = record {
       sized = length-set table opened a ∙ o .sized;
+      place-sized = length-set place a opened ∙ o .place-sized;
       waits-sized = length-set waits a (getD waits a 0 - 1) ∙ o .waits-sized;
       room = omega (arith, o .room, one-more);
       inside = each (λ i. i < n) (o .inside) one;
+      placed = λ q h. by-test (ltb q opened)
+          (λ e. let l = ltb-true q opened e in rw (earlier q l) (place-same q l))
+          (λ e. let z : q ≡ opened = omega (arith, ltb-false q opened e) in rw (z, behind) place-last);
+      fresh = each (λ i. U i ≡ true) (o .fresh) (o .whole a one (omega arith));
+      whole = λ i h w. o .whole i h (waited i w);
       idle = each (λ i. getD fewer i 0 ≡ 0) (λ q h. still (getD table q 0) (o .idle q h)) free;
       everyone = λ i h z u. by-test (eqb i a)
           (λ e. (opened, omega arith, behind ∙ sym (eqb-true i a e)))
@@ -101,24 +132,47 @@ module _ (n opened a : ℕ) (table left waits : List ℕ) (o : Opening n opened 
           (m .0, omega (arith, m .1), earlier (m .0) (m .1) ∙ m .2));
     }
 
+    pub opened-stays : (j : ℕ) → Among table opened j → Among (set table opened a) (opened + 1) j
+    opened-stays j m = (m .0, omega (arith, m .1), earlier (m .0) (m .1) ∙ m .2)
+
 -- Links passed one after the other, and of the first k links those of the first m.
-pub opens-none : (m : ℕ) (afters : List ℕ) (opened : ℕ) (table waits : List ℕ)
-    → Opens m afters opened table waits opened table waits
-opens-none m afters opened table waits n left few one o = o
+pub opens-none : (m : ℕ) (afters : List ℕ) (opened : ℕ) (table place waits : List ℕ)
+    → Opens m afters opened table place waits opened table place waits
+opens-none m afters opened table place waits = record { opening = λ n U few one o. o; stays = λ j m. m }
 
-pub opens-then : (m k : ℕ) (afters : List ℕ) (opened opened₂ opened₃ : ℕ) (table waits table₂ waits₂ table₃ waits₃ : List ℕ)
-    → k ≤ m → Opens m afters opened table waits opened₂ table₂ waits₂
-    → Opens k afters opened₂ table₂ waits₂ opened₃ table₃ waits₃ → Opens m afters opened table waits opened₃ table₃ waits₃
-opens-then m k afters opened opened₂ opened₃ table waits table₂ waits₂ table₃ waits₃ h f g n left few one o =
-    g n left few (λ j l. one j (omega arith)) (f n left few one o)
+pub opens-then : (m k : ℕ) (afters : List ℕ) (opened opened₂ opened₃ : ℕ)
+    (table place waits table₂ place₂ waits₂ table₃ place₃ waits₃ : List ℕ) → k ≤ m
+    → Opens m afters opened table place waits opened₂ table₂ place₂ waits₂
+    → Opens k afters opened₂ table₂ place₂ waits₂ opened₃ table₃ place₃ waits₃
+    → Opens m afters opened table place waits opened₃ table₃ place₃ waits₃
+opens-then m k afters opened opened₂ opened₃ table place waits table₂ place₂ waits₂ table₃ place₃ waits₃ h f g = record {
+  opening = λ n U few one o. g .opening n U few (λ j l. one j (omega arith)) (f .opening n U few one o);
+  stays = λ j m. g .stays j (f .stays j m);
+}
 
-pub room-then : (m k : ℕ) (afters : List ℕ) (opened opened₂ : ℕ) (table waits table₂ waits₂ : List ℕ) → k ≤ m
-    → Opens m afters opened table waits opened₂ table₂ waits₂ → Room m afters opened table waits
-    → Room k afters opened₂ table₂ waits₂
-room-then m k afters opened opened₂ table waits table₂ waits₂ h f r = record {
+pub room-then : (m k : ℕ) (afters : List ℕ) (opened opened₂ : ℕ) (table place waits table₂ place₂ waits₂ : List ℕ) → k ≤ m
+    → Opens m afters opened table place waits opened₂ table₂ place₂ waits₂ → Room m afters opened table place waits
+    → Room k afters opened₂ table₂ place₂ waits₂
+room-then m k afters opened opened₂ table place waits table₂ place₂ waits₂ h f r = record {
   pieces = r .pieces;
-  left = r .left;
+  among = r .among;
   few = r .few;
   after-one = λ j l. r .after-one j (omega arith);
-  opening = f (r .pieces) (r .left) (r .few) (r .after-one) (r .opening);
+  opening = f .opening (r .pieces) (r .among) (r .few) (r .after-one) (r .opening);
+}
+
+-- The same pieces are unfinished, said otherwise.
+pub opening-alike : (n opened : ℕ) (table place : List ℕ) (U U′ : ℕ → Bool) (waits : List ℕ)
+    → ((i : ℕ) → i < n → U′ i ≡ U i) → Opening n opened table place U waits → Opening n opened table place U′ waits
+opening-alike n opened table place U U′ waits e o = record {
+  sized = o .sized;
+  place-sized = o .place-sized;
+  waits-sized = o .waits-sized;
+  room = o .room;
+  inside = o .inside;
+  placed = o .placed;
+  idle = o .idle;
+  fresh = λ q h. e (getD table q 0) (o .inside q h) ∙ o .fresh q h;
+  everyone = λ i h z u. o .everyone i h z (sym (e i h) ∙ u);
+  whole = λ i h w. e i h ∙ o .whole i h w;
 }

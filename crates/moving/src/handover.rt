@@ -1,105 +1,14 @@
-// What the links do to the pieces: how many unfinished pieces a piece waits for, and from when on it may be ready. A link
-// is looked at once, when the piece before it is finished; a piece that waits for none any more is open, and is put
-// behind the open pieces in `table`.
+// The pieces that were worked on: one that is finished is closed, and its links are looked at, once each.
+use crate::passing::pass_on;
+use crate::table::close;
+ghost use mathlib.Core.Bool.{Bool};
 ghost use mathlib.Core.Path.{_≡_};
-ghost use Prim.Native.Nat.{ℕ, _+_, _<_, _≤_};
-ghost use lib.Dec.{eqb};
+ghost use Prim.Native.Nat.{ℕ, _<_, _≤_};
 ghost use lib.ListN.{getD};
-ghost use Rattle.rules.specs.Words.{when};
 ghost use Rattle.links.specs.Chains.{Chained};
 ghost use Rattle.steps.specs.Choice.{Busy};
-ghost use Rattle.steps.specs.Handover.{Named, ties, waiting, passed, passFrom, handOn, handTo};
-ghost use Rattle.steps.specs.Opening.{Room, Opens};
-
-// The delay of a link: nothing on one desk.
-fn delay(before: u8, after: u8, handover: u32) -> u32
-    ensures { λ r. ⌜ (r ≡ when (eqb before after) 0 handover) × (r ≤ handover) ⌝ }
-{
-    if before == after { 0 } else { handover }
-}
-
-// The piece before link k was finished at moment c.
-fn pass(
-    k: usize,
-    c: u32,
-    opened: usize,
-    desks: &[u8; 256],
-    befores: &[u16; 1024],
-    afters: &[u16; 1024],
-    handovers: &[u16; 1024],
-    waits: &mut [u16; 256],
-    ready: &mut [u32; 256],
-    table: &mut [u16; 256],
-) -> usize
-    requires { ⌜ (k < 1024) × (getD (now befores) k 0 < 256) × (c < 4000000000) ⌝ }
-    requires { ⌜ Room (k + 1) (now afters) opened (now table) (now waits) ⌝ }
-    ensures { λ _. ⌜ waiting (now (waits .exit)) (now (ready .exit))
-        ≡ passed (ties (now (desks .entry)) (now (befores .entry)) (now (afters .entry))
-        (now (handovers .entry))) c k (waiting (now (waits .entry)) (now (ready .entry))) ⌝ }
-    ensures { λ r. ⌜ Opens (k + 1) (now (afters .entry)) opened (now (table .entry)) (now (waits .entry))
-        r (now (table .exit)) (now (waits .exit)) ⌝ }
-{
-    let b = befores[k] as usize;
-    let a = afters[k] as usize;
-    let w = waits[a];
-    waits[a] = numbers::one_less(w);
-    ready[a] = numbers::greater(
-        ready[a],
-        c + delay(desks[b], desks[a], numbers::wide(handovers[k])),
-    );
-    if w == 1 {
-        table[opened] = a as u16;
-        return opened + 1;
-    }
-    opened
-}
-
-// Piece p was finished at moment c: each of its links is looked at, along their chain.
-fn pass_on(
-    m: usize,
-    p: usize,
-    c: u32,
-    opened: usize,
-    desks: &[u8; 256],
-    befores: &[u16; 1024],
-    afters: &[u16; 1024],
-    handovers: &[u16; 1024],
-    last: &[u16; 256],
-    prior: &[u16; 1024],
-    waits: &mut [u16; 256],
-    ready: &mut [u32; 256],
-    table: &mut [u16; 256],
-) -> usize
-    requires { ⌜ Named m (now befores) (now afters) ⌝ }
-    requires { ⌜ Chained (now befores) m (now last) (now prior) ⌝ }
-    requires { ⌜ (p < 256) × (c < 4000000000) ⌝ }
-    requires { ⌜ Room m (now afters) opened (now table) (now waits) ⌝ }
-    ensures { λ _. ⌜ waiting (now (waits .exit)) (now (ready .exit))
-        ≡ passFrom (ties (now (desks .entry)) (now (befores .entry)) (now (afters .entry))
-        (now (handovers .entry))) p c m (waiting (now (waits .entry)) (now (ready .entry))) ⌝ }
-    ensures { λ r. ⌜ Opens m (now (afters .entry)) opened (now (table .entry)) (now (waits .entry))
-        r (now (table .exit)) (now (waits .exit)) ⌝ }
-{
-    let mut held = opened;
-    let mut next = numbers::place(last[p]);
-    while 0 < next {
-        let k = next - 1;
-        held = pass(
-            k,
-            c,
-            held,
-            desks,
-            befores,
-            afters,
-            handovers,
-            waits,
-            ready,
-            table,
-        );
-        next = numbers::place(prior[k]);
-    }
-    held
-}
+ghost use Rattle.steps.specs.Handover.{Named, ties, waiting, handOn, handTo};
+ghost use Rattle.steps.specs.Opening.{Among, Opening, Room, Hands, Working, spentTo};
 
 // Piece i was worked on until moment c: if that finished it, its links are looked at.
 fn hand_on(
@@ -117,25 +26,27 @@ fn hand_on(
     waits: &mut [u16; 256],
     ready: &mut [u32; 256],
     table: &mut [u16; 256],
+    place: &mut [u16; 256],
 ) -> usize
     requires { ⌜ Named m (now befores) (now afters) ⌝ }
     requires { ⌜ Chained (now befores) m (now last) (now prior) ⌝ }
-    requires { ⌜ (i < 256) × (c < 4000000000) ⌝ }
-    requires { ⌜ Room m (now afters) opened (now table) (now waits) ⌝ }
+    requires { ⌜ (Among (now table) opened i) × (c < 4000000000) ⌝ }
+    requires { ⌜ Room m (now afters) opened (now table) (now place) (now waits) ⌝ }
     ensures { λ _. ⌜ waiting (now (waits .exit)) (now (ready .exit))
         ≡ handOn (ties (now (desks .entry)) (now (befores .entry)) (now (afters .entry))
         (now (handovers .entry))) m c (now (left .entry)) i (waiting (now (waits .entry)) (now (ready .entry))) ⌝ }
-    ensures { λ r. ⌜ Opens m (now (afters .entry)) opened (now (table .entry)) (now (waits .entry))
-        r (now (table .exit)) (now (waits .exit)) ⌝ }
+    ensures { λ r. ⌜ Hands m (now (afters .entry)) i (now (left .entry)) opened (now (table .entry)) (now (place .entry))
+        (now (waits .entry)) r (now (table .exit)) (now (place .exit)) (now (waits .exit)) ⌝ }
 {
     if 0 < left[i] {
         return opened;
     }
+    let rest = close(i, opened, table, place);
     pass_on(
         m,
         i,
         c,
-        opened,
+        rest,
         desks,
         befores,
         afters,
@@ -145,6 +56,7 @@ fn hand_on(
         waits,
         ready,
         table,
+        place,
     )
 }
 
@@ -166,17 +78,21 @@ pub fn hand_all(
     waits: &mut [u16; 256],
     ready: &mut [u32; 256],
     table: &mut [u16; 256],
+    place: &mut [u16; 256],
 ) -> usize
     requires { ⌜ Named m (now befores) (now afters) ⌝ }
     requires { ⌜ Chained (now befores) m (now last) (now prior) ⌝ }
-    requires { ⌜ (c < 4000000000) × Busy count (now chosen) (now busy) ⌝ }
-    requires { ⌜ Room m (now afters) opened (now table) (now waits) ⌝ }
+    requires { ⌜ (c < 4000000000) × Busy count (now chosen) (now busy)
+        × Working count (now chosen) (now busy) opened (now table) ⌝ }
+    requires { ⌜ Room m (now afters) opened (now table) (now place) (now waits) ⌝ }
     ensures { λ _. ⌜ waiting (now (waits .exit)) (now (ready .exit))
         ≡ handTo (ties (now (desks .entry)) (now (befores .entry)) (now (afters .entry))
         (now (handovers .entry))) m c (now (left .entry)) (now (chosen .entry)) (now (busy .entry)) count
         (waiting (now (waits .entry)) (now (ready .entry))) ⌝ }
-    ensures { λ r. ⌜ Opens m (now (afters .entry)) opened (now (table .entry)) (now (waits .entry))
-        r (now (table .exit)) (now (waits .exit)) ⌝ }
+    ensures { λ r. ⌜ ((n : ℕ) (U : ℕ → Bool) → n ≤ 256 → ((k : ℕ) → k < m → getD (now (afters .entry)) k 0 < n)
+        → Opening n opened (now (table .entry)) (now (place .entry)) U (now (waits .entry))
+        → Opening n r (now (table .exit)) (now (place .exit))
+        (spentTo (now (chosen .entry)) (now (busy .entry)) (now (left .entry)) U count) (now (waits .exit))) ⌝ }
 {
     let mut held = opened;
     let mut q = 0;
@@ -197,6 +113,7 @@ pub fn hand_all(
             waits,
             ready,
             table,
+            place,
         );
         q += 1;
     }

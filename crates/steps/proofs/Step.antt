@@ -5,6 +5,7 @@ use mathlib.Core.List.{List}
 use mathlib.Core.Option.{none}
 use mathlib.Core.Path.{_≡_, sym, _∙_}
 use native.Mathlib.Omega.{arith}
+use borrow.Author.Tests.{ltb-true, lt-ltb}
 use lib.ListN.{getD}
 use Rattle.rules.specs.Job.{Job, desk}
 use Rattle.rules.specs.Rings.{ringPiece}
@@ -15,7 +16,7 @@ use Rattle.laws.proofs.Sound.{fits}
 use Rattle.slots.specs.Stretch.{at, Stretch}
 use Rattle.slots.proofs.Ended.{Ended}
 use Rattle.steps.specs.Choice.{View, view, Decided, never}
-use Rattle.steps.specs.Opening.{Among, Opening}
+use Rattle.steps.specs.Opening.{Among, unfinished, Opening}
 use Rattle.steps.specs.Handover.{Ties, ties, Waiting, handTo}
 use Rattle.steps.specs.Log.{Log, noteTo}
 use Rattle.steps.specs.Tables.{Tables, Listed}
@@ -43,8 +44,7 @@ module _ (J : Job) (sound : Sound J) (free : ringPiece J ≡ none) (T : Tables) 
   few-desks i h = omega (arith, fits J sound i (rw (L .count) h) .desk-most)
 
   module _ (t : ℕ) (w : Work) (s : Waiting) (l : Log) (h : Held J (T .pieces) (T .desks) t w s l) (opened : ℕ)
-      (table : List ℕ) (o : Opening (T .pieces) opened table (w .left) (s .waits))
-      (fresh : (q : ℕ) → q < opened → 0 < getD (w .left) (getD table q 0) 0) where
+      (table place : List ℕ) (o : Opening (T .pieces) opened table place (unfinished (w .left)) (s .waits)) where
     abbrev seen : View
     seen = view t (T .desks) (T .latests) (w .left) (s .ready)
 
@@ -68,9 +68,11 @@ module _ (J : Job) (sound : Sound J) (free : ringPiece J ≡ none) (T : Tables) 
       left-is = h .working .left-is;
       ready-is = h .waiting .ready-is;
       inside = open-inside;
-      unfinished = λ i m. rw (h .working .left-is i (open-inside i m)) at (rw (m .2) at (fresh (m .0) (m .1)));
+      unfinished = λ i m. rw (h .working .left-is i (open-inside i m)) at
+          (ltb-true 0 (getD (w .left) i 0) (rw (m .2) at (o .fresh (m .0) (m .1))));
       idle = λ i m. sym (h .waiting .waits-is i (open-inside i m)) ∙ rw (m .2) at (o .idle (m .0) (m .1));
-      everyone = λ i b u z. o .everyone i b (h .waiting .waits-is i b ∙ z) (rw (h .working .left-is i b) u);
+      everyone = λ i b u z. o .everyone i b (h .waiting .waits-is i b ∙ z)
+          (lt-ltb 0 (getD (w .left) i 0) (rw (h .working .left-is i b) u));
     }
 
     module _ (count : ℕ) (chosen busy : List ℕ) (next : ℕ) (decided : Decided seen openPiece count chosen busy next) where

@@ -1,10 +1,10 @@
 -- From the contract's side to the steps': the tables given make a job whose plan they hold step by step, and where no
 -- step is left the tables have the whole plan.
 use Prim.Native.Nat.{ℕ, _+_, _-_, _≤_, _<_}
+use mathlib.Core.Bool.{Bool}
 use mathlib.Core.List.{List}
 use mathlib.Core.Path.{_≡_, refl, sym, ap, _∙_}
 use native.Mathlib.Omega.{arith}
-use lib.Dec.{eqb}
 use lib.ListN.{length, getD, length-map}
 use Rattle.rules.specs.Words.{below}
 use Rattle.rules.specs.Job.{Job, pieceCount}
@@ -12,18 +12,17 @@ use Rattle.rules.specs.Tables.{linkIn}
 use Rattle.rules.specs.Urgency.{start, finish, horizon}
 use Rattle.rules.specs.declared.Link.{Link}
 use Rattle.laws.proofs.Finishing.{all-finished, horizon-most}
-use Rattle.laws.proofs.Progress.{finished-for-good}
-use Rattle.laws.proofs.Sound.{LinkFits, link-fit}
+use Rattle.laws.proofs.Sound.{LinkFits, fits, link-fit}
 use Rattle.laws.proofs.Words.{length-below, mem-map, below-mem}
 use Rattle.links.specs.Links.{linksTo}
-use Rattle.links.proofs.Counting.{counted-most}
 use Rattle.slots.specs.Stretch.{at}
 use Rattle.slots.proofs.Ended.{Ended, ended-same, ended-runs}
 use Rattle.slots.proofs.Growth.{runs-grown}
+use Rattle.moving.proofs.Opened.{opened-few}
 use Rattle.steps.specs.Choice.{View, view, Decided, never}
 use Rattle.steps.specs.Handover.{Named, ties, Waiting, waiting, handTo}
 use Rattle.steps.specs.Log.{Log, log, noteTo}
-use Rattle.steps.specs.Opening.{Among, Opening, Lookable, Kept}
+use Rattle.steps.specs.Opening.{Among, unfinished, Opening, Lookable}
 use Rattle.steps.specs.Tables.{Tables, Listed}
 use Rattle.steps.specs.Work.{Work, work, workTo}
 use Rattle.steps.proofs.Begin.{begun-work, begun-waits, begun-log}
@@ -31,7 +30,6 @@ use Rattle.steps.proofs.Scores.{scores-most}
 use Rattle.steps.proofs.Step.{Held, few-pieces, few-desks, ahead, at-most, within, finished, step}
 use Rattle.steps.proofs.Tables.{jobOf, listed}
 use Rattle.urgency.specs.Plan.{Given, Planned, Begun}
-use Rattle.urgency.proofs.OpenTable.{opening-kept, opening-left}
 
 module _ (T : Tables) (dues : List ℕ) where
   abbrev pub job : Job
@@ -41,17 +39,10 @@ module _ (T : Tables) (dues : List ℕ) where
   seen t w s = view t (T .desks) (T .latests) (w .left) (s .ready)
 
   -- The loop stands at moment t: the tables hold the plan, and one has the open pieces.
-  pub record Standing (t opened : ℕ) (w : Work) (s : Waiting) (l : Log) (table busy : List ℕ) : Type 0 where
+  pub record Standing (t opened : ℕ) (w : Work) (s : Waiting) (l : Log) (table place busy : List ℕ) : Type 0 where
     pub held : Held job (T .pieces) (T .desks) t w s l
-    pub opening : Opening (T .pieces) opened table (w .left) (s .waits)
+    pub opening : Opening (T .pieces) opened table place (unfinished (w .left)) (s .waits)
     pub busy-sized : length busy ≡ 32
-
-  -- It is decided: none of the pieces in that table is finished, and the choices and the next moment are made.
-  pub record Going (t opened count next : ℕ) (w : Work) (s : Waiting) (l : Log) (table chosen busy : List ℕ) : Type 0 where
-    pub held : Held job (T .pieces) (T .desks) t w s l
-    pub opening : Opening (T .pieces) opened table (w .left) (s .waits)
-    pub fresh : (q : ℕ) → q < opened → 0 < getD (w .left) (getD table q 0) 0
-    pub decided : Decided (seen t w s) (Among table opened) count chosen busy next
 
   module _ (g : Given job (T .pieces) (T .latests)) where
     lists : Listed job T
@@ -110,74 +101,62 @@ module _ (T : Tables) (dues : List ℕ) where
     pub in-time : (t : ℕ) (w : Work) (s : Waiting) (l : Log) → Held job (T .pieces) (T .desks) t w s l → t < never
     in-time t w s l h = omega (arith, h .in-time, horizon-most job (g .sound) (g .free))
 
-    pub lookable : (opened : ℕ) (table left waits : List ℕ) → Opening (T .pieces) opened table left waits
-        → Lookable opened table (T .desks)
-    lookable opened table left waits o = record {
-      sized = o .sized;
-      few = omega (arith, o .room, counted-most (λ i. eqb (getD waits i 0) 0) (T .pieces), few);
+    pub lookable : (opened : ℕ) (table place : List ℕ) (U : ℕ → Bool) (waits : List ℕ)
+        → Opening (T .pieces) opened table place U waits → Lookable opened table (T .desks)
+    lookable opened table place U waits o = record {
+      few = omega (arith, opened-few (T .pieces) opened table place U waits o, few);
       small = λ q h. omega (arith, o .inside q h, few);
       desk-most = λ q h. desks-few (getD table q 0) (o .inside q h);
     }
 
-    pub going : (t opened kept count next : ℕ) (w : Work) (s : Waiting) (l : Log) (table table′ chosen busy busy′ : List ℕ)
-        → Standing t opened w s l table busy → Kept (w .left) opened table kept kept table′
-        → Decided (seen t w s) (Among table′ kept) count chosen busy′ next
-        → Going t kept count next w s l table′ chosen busy′
-    going t opened kept count next w s l table table′ chosen busy busy′ h k d = record {
-      held = h .held;
-      opening = opening-kept (T .pieces) opened kept kept table table′ (w .left) (s .waits) k (h .opening);
-      fresh = k .unfinished;
-      decided = d;
-    }
+    -- Before the first slot every piece is unfinished.
+    pub all-unfinished : (left ready starts finishes : List ℕ)
+        → Begun (T .pieces) (T .durations) (T .releases) left ready starts finishes → (i : ℕ) → i < T .pieces
+        → 0 < getD left i 0
+    all-unfinished left ready starts finishes b i h =
+        omega (
+          arith,
+          b .left-is i h,
+          lists .duration-is i h,
+          fits job (g .sound) i (rw (lists .count) h) .duration-least,
+        )
 
-    module _ (t opened count next : ℕ) (w : Work) (s : Waiting) (l : Log) (table chosen busy : List ℕ)
-        (h : Going t opened count next w s l table chosen busy) where
+    -- It is decided.
+    module _ (t opened : ℕ) (w : Work) (s : Waiting) (l : Log) (table place old : List ℕ)
+        (h : Standing t opened w s l table place old) (count : ℕ) (chosen busy : List ℕ) (next : ℕ)
+        (d : Decided (seen t w s) (Among table opened) count chosen busy next) where
       pub next-ahead : t < next
       next-ahead =
-          ahead job (g .sound) (g .free) T lists t w s l (h .held) opened table (h .opening) (h .fresh) count chosen busy
-          next (h .decided)
+          ahead job (g .sound) (g .free) T lists t w s l (h .held) opened table place (h .opening) count chosen busy next d
 
       pub next-within : next < never → next ≤ horizon job
       next-within c =
-          within job (g .sound) (g .free) T lists t w s l (h .held) opened table (h .opening) (h .fresh) count chosen busy
-          next (h .decided) c
+          within job (g .sound) (g .free) T lists t w s l (h .held) opened table place (h .opening) count chosen busy next d
+          c
 
       pub next-small : next < never → next ≤ 408160
       next-small c = omega (arith, next-within c, horizon-most job (g .sound) (g .free))
 
       -- One step more, with what the code made of the tables.
-      module _ (c : next < never) (w′ : Work) (a : w′ ≡ workTo (T .durations) t next chosen busy count w) where
-        pub goes : (s′ : Waiting) (l′ : Log) → l′ ≡ noteTo t next chosen busy count l
-            → s′ ≡ handTo (ties (T .desks) (T .befores) (T .afters) (T .handovers)) (T .links) next (w′ .left) chosen busy
-            count s
-            → Held job (T .pieces) (T .desks) next w′ s′ l′
-        goes s′ l′ b d =
-            let k = step job (g .sound) (g .free) T lists t w s l (h .held) opened table (h .opening) (h .fresh) count
-            chosen busy next (h .decided) c in
-            rw (d, b, a) k
-
-        -- Who was finished is so still, so the same table has the open pieces.
-        still-finished : (i : ℕ) → i < T .pieces → getD (w .left) i 0 ≡ 0 → getD (w′ .left) i 0 ≡ 0
-        still-finished i b z =
-            let k = goes (handTo (ties (T .desks) (T .befores) (T .afters) (T .handovers)) (T .links) next (w′ .left)
-            chosen busy count s) (noteTo t next chosen busy count l) refl refl in
-            let e : t + (next - t) ≡ next = omega (arith, next-ahead) in
-            let was : at job t i .left ≡ 0 = sym (h .held .working .left-is i b) ∙ z in
-            k .working .left-is i b
-            ∙ ap (λ p. p .left) (rw e at (finished-for-good job (next - t) t i (rw (lists .count) b) was)) ∙ was
-
-        pub opening-then : Opening (T .pieces) opened table (w′ .left) (s .waits)
-        opening-then = opening-left (T .pieces) opened table (w .left) (w′ .left) (s .waits) still-finished (h .opening)
+      pub goes : next < never → (w′ : Work) → w′ ≡ workTo (T .durations) t next chosen busy count w → (s′ : Waiting) (l′ : Log)
+          → l′ ≡ noteTo t next chosen busy count l
+          → s′ ≡ handTo (ties (T .desks) (T .befores) (T .afters) (T .handovers)) (T .links) next (w′ .left) chosen busy
+          count s
+          → Held job (T .pieces) (T .desks) next w′ s′ l′
+      goes c w′ a s′ l′ b e =
+          let k = step job (g .sound) (g .free) T lists t w s l (h .held) opened table place (h .opening) count chosen busy
+          next d c in
+          rw (e, b, a) k
 
       -- No step is left.
       all-done : never ≤ next → Ended job t
       all-done c =
-          finished job (g .sound) (g .free) T lists t w s l (h .held) opened table (h .opening) (h .fresh) count chosen busy
-          next (h .decided)
+          finished job (g .sound) (g .free) T lists t w s l (h .held) opened table place (h .opening) count chosen busy
+          next d
           (omega (
             arith,
-            at-most job (g .sound) (g .free) T lists t w s l (h .held) opened table (h .opening) (h .fresh) count chosen
-                busy next (h .decided),
+            at-most job (g .sound) (g .free) T lists t w s l (h .held) opened table place (h .opening) count chosen busy
+                next d,
           ))
 
       pub planned : never ≤ next

@@ -3,6 +3,7 @@
 // runs.
 use moving::handover;
 use moving::log;
+use moving::table::mark;
 use moving::work;
 ghost use mathlib.Core.Path.{_≡_};
 ghost use Prim.Native.Nat.{_≤_};
@@ -69,6 +70,7 @@ pub fn plan(
     let mut tail = [0u16; 256];
     let mut prior = [0u16; 1024];
     let mut table = [0u16; 256];
+    let mut place = [0u16; 256];
     let mut chosen = [256u16; 32];
     let mut busy = [0u16; 32];
     let mut last = [512usize; 32];
@@ -76,6 +78,7 @@ pub fn plan(
     links::queue::count_into(afters, m, &mut waits);
     links::chains::chain_links(befores, m, &mut tail, &mut prior);
     let mut opened = links::queue::place_free(n, &waits, &mut table);
+    mark(opened, &table, &mut place);
     let mut runs = 0;
     let mut t = 0;
     loop {
@@ -86,7 +89,7 @@ pub fn plan(
             latests,
             &left,
             &ready,
-            &mut table,
+            &table,
             &mut chosen,
             &mut busy,
         );
@@ -119,7 +122,7 @@ pub fn plan(
         opened = handover::hand_all(
             m,
             look.next,
-            look.opened,
+            opened,
             look.count,
             desks,
             befores,
@@ -133,6 +136,7 @@ pub fn plan(
             &mut waits,
             &mut ready,
             &mut table,
+            &mut place,
         );
         t = look.next;
     }

@@ -8,19 +8,19 @@ use lib.ListN.{getD-replicate}
 use Rattle.rules.specs.Urgency.{horizon}
 use Rattle.steps.specs.Handover.{Waiting, waiting}
 use Rattle.steps.specs.Log.{Log, log}
-use Rattle.steps.specs.Opening.{Opening}
+use Rattle.steps.specs.Opening.{unfinished}
 use Rattle.steps.specs.Tables.{Tables}
 use Rattle.steps.specs.Work.{Work, work}
 use Rattle.steps.proofs.Tables.{jobOf}
-use Rattle.urgency.proofs.OpenTable.{opening-first}
-use Rattle.urgency.proofs.Planned.{Standing, Going, going, in-time, few, named, after-inside, lookable, before-first, next-ahead, next-within, next-small, goes, opening-then, planned}
+use Rattle.urgency.proofs.OpenTable.{markable, opening-first, working, opening-then}
+use Rattle.urgency.proofs.Planned.{Standing, in-time, few, named, after-inside, lookable, all-unfinished, before-first, next-ahead, next-within, next-small, goes, planned}
 use Rattle.urgency.proofs.plan.Statement.{statement}
 use Rattle.urgency.proofs.plan.Tie as tie
 
 abbrev Inv-loop : tie.InvT-loop
 Inv-loop n m desks durations releases dues befores afters handovers latests start₀ finish₀ piece₀ from₀ until₀ left₀
-    waits₀ ready₀ tail prior table₀ chosen₀ busy₀ last₀ opened₀ runs₀ t₀ start finish piece from until left waits ready
-    table chosen busy last opened runs t =
+    waits₀ ready₀ tail prior table₀ place₀ chosen₀ busy₀ last₀ opened₀ runs₀ t₀ start finish piece from until left waits
+    ready table place chosen busy last opened runs t =
     let T : Tables = record {
       pieces = n;
       links = m;
@@ -32,12 +32,13 @@ Inv-loop n m desks durations releases dues befores afters handovers latests star
       handovers = handovers;
       latests = latests;
     } in
-    Standing T dues t opened (work left start finish) (waiting waits ready) (log runs last piece from until) table busy
+    Standing T dues t opened (work left start finish) (waiting waits ready) (log runs last piece from until) table place
+    busy
 
 abbrev μ-loop : tie.MeasureT-loop
 μ-loop n m desks durations releases dues befores afters handovers latests start₀ finish₀ piece₀ from₀ until₀ left₀
-    waits₀ ready₀ tail prior table₀ chosen₀ busy₀ last₀ opened₀ runs₀ t₀ start finish piece from until left waits ready
-    table chosen busy last opened runs t =
+    waits₀ ready₀ tail prior table₀ place₀ chosen₀ busy₀ last₀ opened₀ runs₀ t₀ start finish piece from until left waits
+    ready table place chosen busy last opened runs t =
     let T : Tables = record {
       pieces = n;
       links = m;
@@ -103,32 +104,47 @@ place-free-requires c κs =
     let s = counted .before .before .before .before .before .before .before in
     (few (lent s) (s .args .dues .now) (s .pre .0), counted .count-into .ensures .sized, refl)
 
--- The way back from a turn's beginning to the table's first pieces, and from there to the links counted and to the entry.
+-- The way back from the loop's beginning to the table's first pieces, to the links counted and to the entry.
+abbrev placed : tie.After-mark Inv-loop μ-loop → tie.After-place-free Inv-loop μ-loop
+placed c = c .before .before .before
+
 abbrev counted : tie.After-place-free Inv-loop μ-loop → tie.After-count-into Inv-loop μ-loop
 counted c = c .before .before .before .before .before .before
 
 abbrev entry : tie.After-place-free Inv-loop μ-loop → tie.Start Inv-loop μ-loop
 entry c = c .before .before .before .before .before .before .before .before .before .before .before .before .before
 
+mark-requires : tie.Need-mark-requires Inv-loop μ-loop
+mark-requires c κs =
+    let f = c .before .before in
+    let s = entry f in
+    markable (s .args .n) (f .place-free .result) _ _ _ (few (lent s) (s .args .dues .now) (s .pre .0)) refl
+    (f .place-free .ensures)
+
 loop-holds : tie.Need-loop-holds Inv-loop μ-loop
 loop-holds c =
-    let k = counted c in
-    let s = entry c in
+    let f = placed c in
+    let k = counted f in
+    let s = entry f in
     record {
       held = before-first (lent s) (s .args .dues .now) (s .pre .0) _ _ _ _ _ _ _ _ _
           (k .before .before .begin .ensures)
           (k .count-into .ensures .sized) (k .count-into .ensures .counts) refl
           (λ d h. getD-replicate 32 d 512 0 h)
           (s .pre .1 .pieces-sized) (s .pre .1 .froms-sized) (s .pre .1 .untils-sized);
-      opening = opening-first _ _ _ _ _ (c .place-free .ensures);
+      opening = opening-first (s .args .n) (f .place-free .result) (f .place-free .last .1 .1 .0) (c .mark .last .1 .1 .0)
+          (k .before .before .begin .last .1 .1 .1 .0) (k .count-into .last .1 .1 .0)
+          (all-unfinished (lent s) (s .args .dues .now) (s .pre .0) (k .before .before .begin .last .1 .1 .1 .0) _ _ _
+          (k .before .before .begin .ensures))
+          (c .mark .ensures .0) (c .mark .ensures .1) (f .place-free .ensures);
       busy-sized = refl;
     }
 
 decide-requires : tie.Need-decide-requires Inv-loop μ-loop
 decide-requires c κs =
-    let s = entry (c .before .before .before .before .before .before) in
+    let s = entry (placed (c .before .before .before .before .before .before)) in
     let l = c .before .before .before .before .before .loop in (
-      lookable (lent s) (s .args .dues .now) (s .pre .0) (l .opened) (l .table) (l .left) (l .waits) (l .inv .opening),
+      lookable (lent s) (s .args .dues .now) (s .pre .0) (l .opened) (l .table) (l .place) _ (l .waits) (l .inv .opening),
       (l .inv .busy-sized, in-time (lent s) (s .args .dues .now) (s .pre .0) (l .t) _ _ _ (l .inv .held)),
     )
 
@@ -137,7 +153,7 @@ abbrev turn : tie.After-decide Inv-loop μ-loop → tie.At-loop Inv-loop μ-loop
 turn c = c .before .before .before .before .before .before
 
 abbrev first : tie.After-decide Inv-loop μ-loop → tie.Start Inv-loop μ-loop
-first c = entry (turn c .before)
+first c = entry (placed (turn c .before))
 
 abbrev works : tie.After-decide Inv-loop μ-loop → Work
 works c = let l = turn c .loop in work (l .left) (l .start) (l .finish)
@@ -149,43 +165,30 @@ abbrev logs : tie.After-decide Inv-loop μ-loop → Log
 logs c = let l = turn c .loop in log (l .runs) (l .last) (l .piece) (l .from) (l .until)
 
 -- And what the decision leaves in the tables.
-abbrev table : tie.After-decide Inv-loop μ-loop → List ℕ
-table c = c .decide .last .1 .1 .1 .1 .1 .1 .0
-
 abbrev chosen : tie.After-decide Inv-loop μ-loop → List ℕ
 chosen c = c .decide .last .1 .1 .1 .1 .1 .1 .1 .0
 
 abbrev busy : tie.After-decide Inv-loop μ-loop → List ℕ
 busy c = c .decide .last .1 .1 .1 .1 .1 .1 .1 .1 .0
 
-decided : (c : tie.After-decide Inv-loop μ-loop) →
-    let r = c .decide .result in
-    Going (lent (first c)) (first c .args .dues .now) (turn c .loop .t) (r .opened) (r .count) (r .next) (works c) (waits c)
-    (logs c) (table c) (chosen c) (busy c)
-decided c =
-    let s = first c in
-    let l = turn c .loop in
-    let r = c .decide .result in
-    going (lent s) (s .args .dues .now) (s .pre .0) (l .t) (l .opened) (r .opened) (r .count) (r .next) (works c) (waits c)
-    (logs c) (l .table) (table c) (chosen c) (l .busy) (busy c) (l .inv) (c .decide .ensures .0) (c .decide .ensures .1)
-
 returns : tie.Need-returns Inv-loop μ-loop
 returns c =
     let d = c .before .before in
     let s = first d in
+    let l = turn d .loop in
     let r = d .decide .result in
-    planned (lent s) (s .args .dues .now) (s .pre .0) (turn d .loop .t) (r .opened) (r .count) (r .next) (works d) (waits d)
-    (logs d) (table d) (chosen d) (busy d) (decided d) (c .if1 .taken)
+    planned (lent s) (s .args .dues .now) (s .pre .0) (l .t) (l .opened) (works d) (waits d) (logs d) (l .table) (l .place)
+    (l .busy) (l .inv) (r .count) (chosen d) (busy d) (r .next) (d .decide .ensures) (c .if1 .taken)
 
 work-all-requires : tie.Need-work-all-requires Inv-loop μ-loop
-work-all-requires c κs = decided (c .before .before .before .before .before .before .before) .decided .looked-at .working
+work-all-requires c κs = c .before .before .before .before .before .before .before .decide .ensures .looked-at .working
 
 note-all-requires : tie.Need-note-all-requires Inv-loop μ-loop
-note-all-requires c κs = decided (c .before .before .before .before .before .before .before .before .before .before .before .before .before .before) .decided .looked-at .working
+note-all-requires c κs = c .before .before .before .before .before .before .before .before .before .before .before .before .before .before .decide .ensures .looked-at .working
 
 -- The way back from the last places of a turn.
 abbrev noted : tie.After-hand-all Inv-loop μ-loop → tie.After-note-all Inv-loop μ-loop
-noted c = c .before .before .before .before .before .before .before .before .before
+noted c = c .before .before .before .before .before .before .before .before .before .before
 
 abbrev worked : tie.After-note-all Inv-loop μ-loop → tie.After-work-all Inv-loop μ-loop
 worked c = c .before .before .before .before .before .before .before
@@ -196,41 +199,34 @@ goes-on c = c .before .before .before .before .before .before
 abbrev at-decision : tie.After-work-all Inv-loop μ-loop → tie.After-decide Inv-loop μ-loop
 at-decision c = goes-on c .before .before
 
--- The table still has the open pieces when the slots are worked.
-open-then : (c : tie.After-work-all Inv-loop μ-loop) →
-    let d = at-decision c in
-    Opening (first d .args .n) (d .decide .result .opened) (table d) (c .work-all .last .1 .1 .1 .1 .1 .1 .0) (turn d .loop .waits)
-open-then c =
-    let d = at-decision c in
-    let s = first d in
-    let r = d .decide .result in
-    opening-then (lent s) (s .args .dues .now) (s .pre .0) (turn d .loop .t) (r .opened) (r .count) (r .next) (works d)
-    (waits d) (logs d) (table d) (chosen d) (busy d) (decided d) (goes-on c .if1 .left) _ (c .work-all .ensures)
-
 hand-all-requires : tie.Need-hand-all-requires Inv-loop μ-loop
 hand-all-requires c κs =
-    let w = worked (c .before .before .before .before .before .before .before .before) in
+    let w = worked (c .before .before .before .before .before .before .before .before .before) in
     let d = at-decision w in
     let s = first d in
+    let l = turn d .loop in
     let r = d .decide .result in (
       named (lent s) (s .args .dues .now) (s .pre .0),
       (
-        turn d .before .before .before .before .chain-links .ensures,
+        placed (turn d .before) .before .before .before .chain-links .ensures,
         (
           (
             omega (
               arith,
-              next-small (lent s) (s .args .dues .now) (s .pre .0) (turn d .loop .t) (r .opened) (r .count) (r .next)
-                  (works d) (waits d) (logs d) (table d) (chosen d) (busy d) (decided d) (goes-on w .if1 .left),
+              next-small (lent s) (s .args .dues .now) (s .pre .0) (l .t) (l .opened) (works d) (waits d) (logs d)
+                  (l .table) (l .place) (l .busy) (l .inv) (r .count) (chosen d) (busy d) (r .next) (d .decide .ensures)
+                  (goes-on w .if1 .left),
             ),
-            decided d .decided .looked-at .working,
+            d .decide .ensures .looked-at .working,
+            working _ (l .opened) (r .count) (l .table) (chosen d) (busy d) (d .decide .ensures .start)
+                (d .decide .ensures .looked-at),
           ),
           record {
             pieces = s .args .n;
-            left = w .work-all .last .1 .1 .1 .1 .1 .1 .0;
+            among = unfinished (l .left);
             few = few (lent s) (s .args .dues .now) (s .pre .0);
             after-one = after-inside (lent s) (s .args .dues .now) (s .pre .0);
-            opening = open-then w;
+            opening = l .inv .opening;
           },
         ),
       ),
@@ -241,13 +237,15 @@ loop-less c =
     let w = worked (noted c) in
     let d = at-decision w in
     let s = first d in
+    let l = turn d .loop in
     let r = d .decide .result in
     omega (
       arith,
-      next-ahead (lent s) (s .args .dues .now) (s .pre .0) (turn d .loop .t) (r .opened) (r .count) (r .next) (works d)
-          (waits d) (logs d) (table d) (chosen d) (busy d) (decided d),
-      next-within (lent s) (s .args .dues .now) (s .pre .0) (turn d .loop .t) (r .opened) (r .count) (r .next) (works d)
-          (waits d) (logs d) (table d) (chosen d) (busy d) (decided d) (goes-on w .if1 .left),
+      next-ahead (lent s) (s .args .dues .now) (s .pre .0) (l .t) (l .opened) (works d) (waits d) (logs d) (l .table)
+          (l .place) (l .busy) (l .inv) (r .count) (chosen d) (busy d) (r .next) (d .decide .ensures),
+      next-within (lent s) (s .args .dues .now) (s .pre .0) (l .t) (l .opened) (works d) (waits d) (logs d) (l .table)
+          (l .place) (l .busy) (l .inv) (r .count) (chosen d) (busy d) (r .next) (d .decide .ensures)
+          (goes-on w .if1 .left),
     )
 
 loop-again : tie.Need-loop-again Inv-loop μ-loop
@@ -256,15 +254,17 @@ loop-again c =
     let w = worked n in
     let d = at-decision w in
     let s = first d in
+    let l = turn d .loop in
     let r = d .decide .result in
     record {
-      held = goes (lent s) (s .args .dues .now) (s .pre .0) (turn d .loop .t) (r .opened) (r .count) (r .next) (works d)
-          (waits d) (logs d) (table d) (chosen d) (busy d) (decided d) (goes-on w .if1 .left) _ (w .work-all .ensures) _ _
-          (n .note-all .ensures) (c .hand-all .ensures .0);
-      opening = c .hand-all .ensures .1 (s .args .n) (w .work-all .last .1 .1 .1 .1 .1 .1 .0)
-          (few (lent s) (s .args .dues .now) (s .pre .0)) (after-inside (lent s) (s .args .dues .now) (s .pre .0))
-          (open-then w);
-      busy-sized = decided d .decided .looked-at .working .busy-sized;
+      held = goes (lent s) (s .args .dues .now) (s .pre .0) (l .t) (l .opened) (works d) (waits d) (logs d) (l .table)
+          (l .place) (l .busy) (l .inv) (r .count) (chosen d) (busy d) (r .next) (d .decide .ensures)
+          (goes-on w .if1 .left) _ (w .work-all .ensures) _ _ (n .note-all .ensures) (c .hand-all .ensures .0);
+      opening = opening-then (s .args .durations .now) (l .t) (r .next) (r .count) (chosen d) (busy d) (works d) _
+          (s .args .n) (c .hand-all .result) _ _ _ (w .work-all .ensures)
+          (c .hand-all .ensures .1 (s .args .n) (unfinished (l .left)) (few (lent s) (s .args .dues .now) (s .pre .0))
+          (after-inside (lent s) (s .args .dues .now) (s .pre .0)) (l .inv .opening));
+      busy-sized = d .decide .ensures .looked-at .working .busy-sized;
     }
 
 pub plan-spec : {M : Type 1} → statement M
@@ -277,6 +277,7 @@ plan-spec =
     count-into-requires
     chain-links-requires
     place-free-requires
+    mark-requires
     loop-holds
     decide-requires
     returns

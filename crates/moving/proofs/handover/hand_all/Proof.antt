@@ -5,31 +5,34 @@ use mathlib.Core.Path.{_≡_, refl}
 use native.Mathlib.Omega.{arith}
 use lib.ListN.{getD}
 use Rattle.steps.specs.Handover.{ties, waiting, handTo}
-use Rattle.steps.specs.Opening.{Opens}
 use Rattle.steps.proofs.Decision.{busy-few}
-use Rattle.moving.proofs.Opened.{opens-none, opens-then, room-then}
 use Rattle.moving.proofs.Passed.{hand-more}
+use Rattle.moving.proofs.Spent.{Spent, spent-none, spent-more, spent-room}
 use Rattle.moving.proofs.handover.hand_all.Statement.{statement}
 use Rattle.moving.proofs.handover.hand_all.Tie as tie
 
 abbrev Inv-loop : tie.InvT-loop
-Inv-loop m c opened count desks befores afters handovers first following chosen busy left waits₀ ready₀ table₀ held₀ q₀
-    waits ready table held q =
+Inv-loop m c opened count desks befores afters handovers first following chosen busy left waits₀ ready₀ table₀ place₀
+    held₀ q₀ waits ready table place held q =
     (q ≤ count)
     × (waiting waits ready
     ≡ handTo (ties desks befores afters handovers) m c left chosen busy q (waiting waits₀ ready₀))
-    × Opens m afters opened table₀ waits₀ held table waits
+    × Spent m afters count chosen busy left opened table₀ place₀ waits₀ q held table place waits
 
 abbrev μ-loop : tie.MeasureT-loop
-μ-loop m c opened count desks befores afters handovers first following chosen busy left waits₀ ready₀ table₀ held₀ q₀
-    waits ready table held q =
+μ-loop m c opened count desks befores afters handovers first following chosen busy left waits₀ ready₀ table₀ place₀
+    held₀ q₀ waits ready table place held q =
     count - q
 
 loop-holds : tie.Need-loop-holds Inv-loop μ-loop
 unfolding handTo
 loop-holds c =
-    let a = c .args in
-    (omega arith, refl, opens-none (a .m) (a .afters .now) (a .opened) (a .table .now) (a .waits .now))
+    let a = c .args in (
+      omega arith,
+      refl,
+      spent-none (a .m) (a .afters .now) (a .count) (a .chosen .now) (a .busy .now) (a .left .now) (a .opened)
+          (a .table .now) (a .place .now) (a .waits .now) (c .pre .1 .1 .0 .2),
+    )
 
 -- The place looked at, and the desk in it, are inside the tables.
 place-in : (c : tie.In-loop Inv-loop μ-loop) → c .before .loop .q < 32
@@ -68,7 +71,7 @@ cast-hand-on c = omega (arith, piece-in (c .before .before))
 
 hand-on-requires : tie.Need-hand-on-requires Inv-loop μ-loop
 hand-on-requires c κs =
-    let t = c .before .before .before .before .before in
+    let t = c .before .before .before .before .before .before in
     let s = t .before .before in
     let a = s .args in
     let l = t .before .loop in (
@@ -76,22 +79,23 @@ hand-on-requires c κs =
       (
         s .pre .1 .0,
         (
-          (piece-in t, s .pre .1 .1 .0 .0),
-          room-then (a .m) (a .m) (a .afters .now) (a .opened) (l .held) (a .table .now) (a .waits .now) (l .table)
-              (l .waits) (omega arith) (l .inv .2) (s .pre .1 .1 .1),
+          (l .inv .2 .pending (l .q) (omega arith) (t .loop-test .taken), s .pre .1 .1 .0 .0),
+          spent-room (a .m) (a .afters .now) (a .count) (a .chosen .now) (a .busy .now) (a .left .now) (a .opened)
+              (a .table .now) (a .place .now) (a .waits .now) (l .q) (l .held) (l .table) (l .place) (l .waits)
+              (l .inv .2) (s .pre .1 .1 .1),
         ),
       ),
     )
 
 add-q : tie.Need-add-q Inv-loop μ-loop
-add-q c = omega (arith, place-in (c .before .before .before .before .before .before))
+add-q c = omega (arith, place-in (c .before .before .before .before .before .before .before))
 
 loop-less : tie.Need-loop-less Inv-loop μ-loop
 loop-less c = omega arith
 
 loop-again : tie.Need-loop-again Inv-loop μ-loop
 loop-again c =
-    let t = c .before .before .before .before .before .before in
+    let t = c .before .before .before .before .before .before .before in
     let a = t .before .before .args in
     let l = t .before .loop in
     let links = ties (a .desks .now) (a .befores .now) (a .afters .now) (a .handovers .now) in (
@@ -99,14 +103,16 @@ loop-again c =
       hand-more links (a .m) (a .c) (a .left .now) (a .chosen .now) (a .busy .now) (l .q)
           (waiting (a .waits .now) (a .ready .now)) (waiting (l .waits) (l .ready)) _ (l .inv .1)
           (c .hand-on .ensures .0),
-      opens-then (a .m) (a .m) (a .afters .now) (a .opened) (l .held) (c .hand-on .result) (a .table .now)
-          (a .waits .now) (l .table) (l .waits) _ _ (omega arith) (l .inv .2) (c .hand-on .ensures .1),
+      spent-more (a .m) (a .afters .now) (a .count) (a .chosen .now) (a .busy .now) (a .left .now) (a .opened)
+          (a .table .now) (a .place .now) (a .waits .now) (t .before .before .pre .1 .1 .0 .2) (l .q) (l .held)
+          (l .table) (l .place) (l .waits) (t .loop-test .taken) (l .inv .2) (c .hand-on .result) _ _ _
+          (c .hand-on .ensures .1),
     )
 
 returns : tie.Need-returns Inv-loop μ-loop
 returns c =
     let e : c .before .loop .q ≡ c .before .before .args .count = omega arith in
-    (rw e at (c .before .loop .inv .1), c .before .loop .inv .2)
+    (rw e at (c .before .loop .inv .1), (rw e at (c .before .loop .inv .2)) .opening)
 
 pub hand-all-spec : {M : Type 1} → statement M
 hand-all-spec =

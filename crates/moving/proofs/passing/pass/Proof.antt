@@ -7,9 +7,9 @@ use borrow.Author.Needs.{needs}
 use lib.ListN.{getD, set}
 use Rattle.steps.specs.Handover.{ties, waiting, passed}
 use Rattle.moving.proofs.Passed.{passed-on, delay-is}
-use Rattle.moving.proofs.Opened.{waits-on, opens, place-left}
-use Rattle.moving.proofs.handover.pass.Statement.{statement}
-use Rattle.moving.proofs.handover.pass.Tie as tie
+use Rattle.moving.proofs.Opened.{waits-on, opens, opened-stays, place-left}
+use Rattle.moving.proofs.passing.pass.Statement.{statement}
+use Rattle.moving.proofs.passing.pass.Tie as tie
 
 -- The piece after the link is one of the tables'.
 after-in : (s : tie.Start) → getD (s .args .afters .now) (s .args .k) 0 < 256
@@ -44,8 +44,9 @@ place-in c =
     omega (
       arith,
       r .few,
-      place-left (r .pieces) (s .args .opened) (getD (s .args .afters .now) (s .args .k) 0) (s .args .table .now) (r .left)
-          (s .args .waits .now) (r .opening) (r .few) (r .after-one (s .args .k) (omega arith)) (c .if1 .taken),
+      place-left (r .pieces) (s .args .opened) (getD (s .args .afters .now) (s .args .k) 0) (s .args .table .now)
+          (s .args .place .now) (r .among) (s .args .waits .now) (r .opening) (r .few)
+          (r .after-one (s .args .k) (omega arith)) (c .if1 .taken),
     )
 
 mul-b : tie.Need-mul-b
@@ -126,6 +127,15 @@ mul-table c = omega (arith, place-in c)
 element-write-table : tie.Need-element-write-table
 element-write-table c = place-in c
 
+cast-place : tie.Need-cast-place
+cast-place c = omega (arith, place-in c)
+
+mul-place : tie.Need-mul-place
+mul-place c = omega (arith, after-in (entry (c .before)))
+
+element-write-place : tie.Need-element-write-place
+element-write-place c = after-in (entry (c .before))
+
 add-result : tie.Need-add-result
 add-result c = omega (arith, place-in c)
 
@@ -133,11 +143,16 @@ returns : tie.Need-returns
 returns c =
     let s = entry (c .before) in
     let x = getD (s .args .afters .now) (s .args .k) 0 in
+    let r = s .pre .1 in
     let o = c .before .before .before .before .before .before .before .before .one-less in (
       tables (c .before),
-      λ n left few one r. rw (o .ensures)
-          (opens n (s .args .opened) x (s .args .table .now) left (s .args .waits .now) r few
-          (one (s .args .k) (omega arith)) (c .if1 .taken)),
+      record {
+        opening = λ n U few one a. rw (o .ensures)
+            (opens n (s .args .opened) x (s .args .table .now) (s .args .place .now) U (s .args .waits .now) a few
+            (one (s .args .k) (omega arith)) (c .if1 .taken));
+        stays = opened-stays (r .pieces) (s .args .opened) x (s .args .table .now) (s .args .place .now) (r .among)
+            (s .args .waits .now) (r .opening) (r .few) (r .after-one (s .args .k) (omega arith)) (c .if1 .taken);
+      },
     )
 
 returns-2 : tie.Need-returns-2
@@ -146,9 +161,12 @@ returns-2 c =
     let x = getD (s .args .afters .now) (s .args .k) 0 in
     let o = c .before .before .before .before .before .before .before .before .one-less in (
       tables (c .before),
-      λ n left few one r. rw (o .ensures)
-          (waits-on n (s .args .opened) x (s .args .table .now) left (s .args .waits .now) r few
-          (one (s .args .k) (omega arith)) (c .if1 .left)),
+      record {
+        opening = λ n U few one a. rw (o .ensures)
+            (waits-on n (s .args .opened) x (s .args .table .now) (s .args .place .now) U (s .args .waits .now) a few
+            (one (s .args .k) (omega arith)) (c .if1 .left));
+        stays = λ j m. m;
+      },
     )
 
 pub pass-spec : {M : Type 1} → statement M
@@ -181,6 +199,9 @@ pass-spec =
     cast-table
     mul-table
     element-write-table
+    cast-place
+    mul-place
+    element-write-place
     add-result
     returns
     returns-2)

@@ -8,20 +8,20 @@ use Rattle.steps.specs.Handover.{Ties, ties, waiting, passFrom}
 use Rattle.steps.specs.Opening.{Opens}
 use Rattle.moving.proofs.Opened.{opens-none, opens-then, room-then}
 use Rattle.moving.proofs.Passed.{Onward, last-found, last-nothing, last-most}
-use Rattle.moving.proofs.handover.pass_on.Statement.{statement}
-use Rattle.moving.proofs.handover.pass_on.Tie as tie
+use Rattle.moving.proofs.passing.pass_on.Statement.{statement}
+use Rattle.moving.proofs.passing.pass_on.Tie as tie
 
 abbrev Inv-loop : tie.InvT-loop
-Inv-loop m p c opened desks befores afters handovers last prior waits₀ ready₀ table₀ held₀ next₀ waits ready table held
-    next =
+Inv-loop m p c opened desks befores afters handovers last prior waits₀ ready₀ table₀ place₀ held₀ next₀ waits ready table
+    place held next =
     let l = ties desks befores afters handovers in
     (n : ℕ) × (n ≤ m) × (next ≡ lastWith befores p n)
     × (passFrom l p c n (waiting waits ready) ≡ passFrom l p c m (waiting waits₀ ready₀))
-    × Opens m afters opened table₀ waits₀ held table waits
+    × Opens m afters opened table₀ place₀ waits₀ held table place waits
 
 abbrev μ-loop : tie.MeasureT-loop
-μ-loop m p c opened desks befores afters handovers last prior waits₀ ready₀ table₀ held₀ next₀ waits ready table held
-    next =
+μ-loop m p c opened desks befores afters handovers last prior waits₀ ready₀ table₀ place₀ held₀ next₀ waits ready table
+    place held next =
     next
 
 mul-place : tie.Need-mul-place Inv-loop μ-loop
@@ -40,7 +40,7 @@ loop-holds c =
       omega arith,
       c .place .ensures ∙ c .before .before .pre .1 .0 .ends (a .p) (omega arith),
       refl,
-      opens-none (a .m) (a .afters .now) (a .opened) (a .table .now) (a .waits .now),
+      opens-none (a .m) (a .afters .now) (a .opened) (a .table .now) (a .place .now) (a .waits .now),
     )
 
 -- The way back from a turn to the entry, and the links' tables there.
@@ -67,14 +67,15 @@ sub-k c = omega arith
 
 pass-requires : tie.Need-pass-requires Inv-loop μ-loop
 pass-requires c κs =
-    let t = c .before .before .before in
+    let t = c .before .before .before .before in
     let k = t .before .loop .next - 1 in
     let given = entry t .pre .0 in
     let h : k < entry t .args .m = omega (arith, found t .below, t .before .loop .inv .1) in
     let a = entry t .args in
     let l = t .before .loop in (
       (omega (arith, given .few), given .before-one k h, omega arith),
-      room-then (a .m) (k + 1) (a .afters .now) (a .opened) (l .held) (a .table .now) (a .waits .now) (l .table) (l .waits)
+      room-then (a .m) (k + 1) (a .afters .now) (a .opened) (l .held) (a .table .now) (a .place .now) (a .waits .now) (l .table)
+          (l .place) (l .waits)
           (omega arith) (l .inv .4) (entry t .pre .1 .1 .1),
     )
 
@@ -82,17 +83,17 @@ place-in : (c : tie.In-loop Inv-loop μ-loop) → c .before .loop .next - 1 < 10
 place-in c = omega (arith, found c .below, c .before .loop .inv .1, entry c .pre .0 .few)
 
 mul-place-2 : tie.Need-mul-place-2 Inv-loop μ-loop
-mul-place-2 c = omega (arith, place-in (c .before .before .before .before))
+mul-place-2 c = omega (arith, place-in (c .before .before .before .before .before))
 
 element-copy-out-place-2 : tie.Need-element-copy-out-place-2 Inv-loop μ-loop
-element-copy-out-place-2 c = place-in (c .before .before .before .before)
+element-copy-out-place-2 c = place-in (c .before .before .before .before .before)
 
 place-requires-2 : tie.Need-place-requires-2 Inv-loop μ-loop
 place-requires-2 c κs = tt
 
 -- The turn that a place behind the second look at the chain belongs to.
 abbrev turn : tie.After-place2 Inv-loop μ-loop → tie.In-loop Inv-loop μ-loop
-turn c = c .before .before .before .before .before .before
+turn c = c .before .before .before .before .before .before .before
 
 -- The next place in the chain.
 next-is : (c : tie.After-place2 Inv-loop μ-loop) →
@@ -121,7 +122,8 @@ loop-again c =
       ap (passFrom (tied s) (s .args .p) (s .args .c) (l .next - 1)) (c .before .before .pass .ensures .0)
           ∙ sym (f .rest) ∙ l .inv .3,
       opens-then (s .args .m) (l .next - 1 + 1) (s .args .afters .now) (s .args .opened) (l .held)
-          (c .before .before .pass .result) (s .args .table .now) (s .args .waits .now) (l .table) (l .waits) _ _
+          (c .before .before .pass .result) (s .args .table .now) (s .args .place .now) (s .args .waits .now) (l .table)
+          (l .place) (l .waits) _ _ _
           (omega (arith, f .below, l .inv .1)) (l .inv .4) (c .before .before .pass .ensures .1),
     )
 
