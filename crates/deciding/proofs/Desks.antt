@@ -1,7 +1,6 @@
 -- The table of the desks that work: a desk that nobody asked for yet joins it, and there is room for it; a desk that is
 -- in it stays where it is when another piece takes it.
-use Prim.Native.Nat.{ℕ, suc, _+_, _≤_, _<_}
-use mathlib.Core.Bool.{true, false}
+use Prim.Native.Nat.{ℕ, suc, _+_, _<_}
 use mathlib.Core.List.{List}
 use mathlib.Core.Path.{_≡_, refl, sym, ap, _∙_}
 use native.Mathlib.Omega.{arith}
@@ -13,7 +12,6 @@ use Rattle.laws.proofs.Words.{by-test}
 use Rattle.links.specs.Links.{counted}
 use Rattle.links.proofs.Counting.{counted-same, counted-one, counted-most, counted-none}
 use Rattle.steps.specs.Choice.{Busy}
-use Rattle.steps.specs.Opening.{Among}
 
 -- Nobody asked for a desk yet.
 pub busy-none : (chosen busy : List ℕ) → length chosen ≡ 32 → length busy ≡ 32

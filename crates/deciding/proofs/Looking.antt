@@ -1,15 +1,15 @@
 -- One open piece more looked at: it is to be ready later, or it is put up for its desk.
-use Prim.Native.Nat.{ℕ, zero, suc, _+_, _≤_, _<_, min}
+use Prim.Native.Nat.{ℕ, _≤_, _<_, min}
 use mathlib.Core.Bool.{true, false}
 use mathlib.Core.List.{List}
 use mathlib.Core.Logic.{_⊎_, inl, inr}
-use mathlib.Core.Path.{_≡_, refl, sym, ap, _∙_}
+use mathlib.Core.Path.{_≡_, refl, sym, _∙_}
 use native.Mathlib.Omega.{arith}
 use borrow.Author.Tests.{eqb-true, eqb-false, ltb-true, ltb-false}
 use lib.Dec.{ltb, eqb}
 use lib.ListN.{length, getD, set}
 use Rattle.laws.proofs.Words.{by-test, when-true, when-false}
-use Rattle.steps.specs.Choice.{View, goesFirst, never, Asks, Best, Choice, Later, Busy, Picks, picks, offered, LookedAt}
+use Rattle.steps.specs.Choice.{View, goesFirst, never, Asks, Best, Choice, Later, Picks, picks, offered, LookedAt}
 use Rattle.steps.specs.Opening.{Among}
 use Rattle.steps.proofs.Precedence.{first-trans, first-total}
 use Rattle.deciding.proofs.Desks.{at-desk, at-other, busy-none, busy-again, busy-more}

@@ -4,7 +4,7 @@ use Prim.Native.Nat.{ℕ, _≤_, _<_}
 use mathlib.Core.List.{List}
 use mathlib.Core.Logic.{inl, inr}
 use mathlib.Core.Option.{none, some}
-use mathlib.Core.Path.{_≡_, refl, sym, ap, _∙_}
+use mathlib.Core.Path.{_≡_, sym, ap, _∙_}
 use native.Mathlib.Omega.{arith}
 use borrow.Author.Tests.{ltb-true, ltb-false}
 use lib.Dec.{ltb}
@@ -21,7 +21,7 @@ use Rattle.slots.specs.Standing.{waitsOf, readyOf}
 use Rattle.slots.specs.Stretch.{at}
 use Rattle.slots.proofs.Standing.{ready-waits, waits-ready}
 use Rattle.steps.specs.Choice.{View, Asks, Choice, Busy, codeOf}
-use Rattle.steps.proofs.Moved.{Desks, movedBy, not-moved, moved}
+use Rattle.steps.proofs.Moved.{Desks, not-moved, moved}
 use Rattle.steps.proofs.Precedence.{first-sooner}
 
 -- No more desks work than there are.

@@ -1,7 +1,6 @@
 -- The next moment over the tables: from the moment on until then nothing is decided, it comes as long as a piece is
 -- unfinished, and it lies within the horizon.
 use Prim.Native.Nat.{ℕ, _+_, _-_, _≤_, _<_}
-use mathlib.Core.Bool.{true, false}
 use mathlib.Core.List.{List}
 use mathlib.Core.Logic.{_⊎_, inl, inr}
 use mathlib.Core.Option.{none, some}

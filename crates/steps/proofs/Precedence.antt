@@ -15,7 +15,7 @@ use Rattle.rules.specs.Words.{when}
 use Rattle.rules.specs.Job.{Job}
 use Rattle.rules.specs.Moments.{latest, sooner}
 use Rattle.laws.proofs.Order.{smaller-sooner}
-use Rattle.laws.proofs.Signed.{up, dn, _≼_, _≺_, ltZ-lt, ltZ-le, lt-ltZ, le-ltZ}
+use Rattle.laws.proofs.Signed.{_≼_, _≺_, ltZ-lt, ltZ-le, lt-ltZ, le-ltZ}
 use Rattle.laws.proofs.Words.{by-test, true-or-false}
 use Rattle.slots.proofs.Seams.{lower-sooner}
 use Rattle.steps.specs.Choice.{goesFirst}

@@ -1,12 +1,11 @@
 -- The table of the open pieces from one step to the next: at first the pieces that wait for none, and after a step those
 -- that are unfinished by the slots that are left then.
 use Prim.Native.Nat.{ℕ, zero, suc, _≤_, _<_}
-use mathlib.Core.Bool.{Bool, true}
 use mathlib.Core.List.{List}
 use mathlib.Core.Logic.{_⊎_, inl, inr}
 use mathlib.Core.Path.{_≡_, refl, sym, ap, _∙_}
 use native.Mathlib.Omega.{arith}
-use borrow.Author.Tests.{eqb-true, eqb-false, lt-ltb}
+use borrow.Author.Tests.{eqb-false, lt-ltb}
 use lib.Dec.{ltb, eqb}
 use lib.ListN.{length, getD}
 use lib.Seq.{getD-set-other}

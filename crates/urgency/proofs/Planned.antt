@@ -1,6 +1,6 @@
 -- From the contract's side to the steps': the tables given make a job whose plan they hold step by step, and where no
 -- step is left the tables have the whole plan.
-use Prim.Native.Nat.{ℕ, _+_, _-_, _≤_, _<_}
+use Prim.Native.Nat.{ℕ, _≤_, _<_}
 use mathlib.Core.Bool.{Bool}
 use mathlib.Core.List.{List}
 use mathlib.Core.Path.{_≡_, refl, sym, ap, _∙_}

@@ -1,7 +1,7 @@
 -- `goes_first` compares two latest moments and then two numbers. The moments are signed numbers, which the machine reads
 -- back out of their bits.
 use Prim.Native.Nat.{ℕ}
-use mathlib.Core.Bool.{Bool, true, false}
+use mathlib.Core.Bool.{true, false}
 use mathlib.Core.List.{List}
 use mathlib.Core.Path.{_≡_, sym, ap, _∙_}
 use native.Mathlib.Omega.{arith}
@@ -13,7 +13,7 @@ use mir.Syntax.{w32}
 use mir.Val.{toZ, ofZ}
 use mir.ValLaws.{toZ-ofZ}
 use Rattle.rules.specs.Words.{when}
-use Rattle.laws.proofs.Signed.{_≼_, ltZ-le, le-ltZ, same}
+use Rattle.laws.proofs.Signed.{ltZ-le, le-ltZ, same}
 use Rattle.laws.proofs.Words.{by-test}
 use Rattle.steps.specs.Choice.{goesFirst}
 use Rattle.deciding.proofs.goes_first.Statement.{statement}

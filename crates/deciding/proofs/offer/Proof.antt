@@ -1,7 +1,7 @@
 -- `offer` gives the desk to the piece where nobody asked for it yet or the piece goes first. Each return is one of the
 -- ways of the definition.
 use Prim.Native.Nat.{_<_}
-use mathlib.Core.Path.{_≡_, sym, ap, _∙_}
+use mathlib.Core.Path.{sym, ap, _∙_}
 use native.Mathlib.Omega.{arith}
 use borrow.Author.Needs.{needs}
 use borrow.Author.Tests.{lt-ltb, le-ltb}

@@ -1,7 +1,7 @@
 -- `hand_on` passes on what piece i lets go. Each return is one of the ways: it is unfinished, or it is closed and its links
 -- are looked at.
 use Prim.Native.Nat.{_<_}
-use mathlib.Core.Path.{_≡_, sym, ap, _∙_}
+use mathlib.Core.Path.{_∙_}
 use native.Mathlib.Omega.{arith}
 use borrow.Author.Tests.{lt-ltb, le-ltb}
 use lib.ListN.{getD}

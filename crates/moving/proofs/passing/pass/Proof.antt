@@ -1,7 +1,7 @@
 -- `pass` stores what one link lets go: one wait less, and the greater of two ready moments; and where it was the last
 -- wait, the piece behind the open ones.
 use Prim.Native.Nat.{_<_}
-use mathlib.Core.Path.{_≡_, sym, ap, _∙_}
+use mathlib.Core.Path.{_≡_}
 use native.Mathlib.Omega.{arith}
 use borrow.Author.Needs.{needs}
 use lib.ListN.{getD, set}
