@@ -5,6 +5,7 @@ ghost use mathlib.Core.Path.{_≡_};
 ghost use Prim.Native.Nat.{ℕ, _<_, _≤_};
 ghost use lib.ListN.{length, getD};
 ghost use Rattle.steps.specs.Choice.{view, goesFirst, picks, offered, Busy, endNext, LookedAt, Decided};
+ghost use Rattle.rules.specs.Words.{when};
 ghost use Rattle.steps.specs.Opening.{Among, Lookable};
 
 // No later moment.
@@ -32,6 +33,14 @@ fn goes_first(latests: &[i32; 256], i: usize, x: usize) -> bool
     false
 }
 
+// The one of two pieces that goes first. It is stored whichever it is: a branch on it could not be foretold.
+fn first_of(latests: &[i32; 256], i: usize, x: usize) -> usize
+    requires { ⌜ (i < 256) × (x < 256) ⌝ }
+    ensures { λ r. ⌜ (r ≡ when (goesFirst (now (latests .entry)) i x) i x) × (r < 256) ⌝ }
+{
+    if goes_first(latests, i, x) { i } else { x }
+}
+
 // Piece i is put up for desk d. A desk that nobody asked for yet joins those that work.
 fn offer(
     i: usize,
@@ -51,9 +60,7 @@ fn offer(
         busy[count] = d as u16;
         return count + 1;
     }
-    if goes_first(latests, i, x) {
-        chosen[d] = i as u16;
-    }
+    chosen[d] = first_of(latests, i, x) as u16;
     count
 }
 
