@@ -11,7 +11,6 @@ use lib.ListN.{length, getD, set}
 use Rattle.laws.proofs.Words.{by-test, when-true, when-false}
 use Rattle.steps.specs.Choice.{View, goesFirst, never, Asks, Best, Choice, Later, Picks, picks, offered, LookedAt}
 use Rattle.steps.specs.Opening.{Among}
-use Rattle.steps.proofs.Precedence.{first-trans, first-total}
 use Rattle.deciding.proofs.Desks.{at-desk, at-other, busy-none, busy-again, busy-more}
 
 -- None looked at.
@@ -38,7 +37,7 @@ module _ (v : View) (S T : ℕ → Type 0) (up : (j : ℕ) → S j → T j) wher
   passed-over d x down (inr b) = inr (record {
     inside = up x (b .inside);
     asks = b .asks;
-    first = λ j m a ne. b .first j (down j m a) a ne;
+    first = λ j m a. b .first j (down j m a) a;
   })
 
   module _ (i : ℕ) (own : T i) (split : (j : ℕ) → T j → S j ⊎ (j ≡ i)) where
@@ -85,34 +84,32 @@ module _ (v : View) (S T : ℕ → Type 0) (up : (j : ℕ) → S j → T j) wher
       }
 
       -- It takes the desk: nobody asked for it yet, or i goes before who did.
-      taken : (x : ℕ) → Choice v S d x → (x < 256 → goesFirst (v .latests) i x ≡ true) → Best v T d i
-      unfolding Choice
+      taken : (x : ℕ) → Choice v S d x → (x < 256 → goesFirst (v .keys) i x ≡ true) → Best v T d i
+      unfolding Choice goesFirst
       taken x (inl w) g = record {
         inside = own;
         asks = (is, now);
-        first = λ j m. older (λ j. Asks v T d j → (j ≡ i → ⊥) → goesFirst (v .latests) i j ≡ true) j m
-            (λ s a ne. absurd (w .1 j s a)) (λ a ne. absurd (ne refl));
+        first = λ j m. older (λ j. Asks v T d j → getD (v .keys) i 0 ≤ getD (v .keys) j 0) j m
+            (λ s a. absurd (w .1 j s a)) (λ a. omega arith);
       }
       taken x (inr b) g = record {
         inside = own;
         asks = (is, now);
-        first = λ j m. older (λ j. Asks v T d j → (j ≡ i → ⊥) → goesFirst (v .latests) i j ≡ true) j m
-            (λ s a ne. let f = g (few x (b .inside)) in by-test (eqb j x)
-            (λ z. rw (eqb-true j x z) f)
-            (λ z. first-trans (v .latests) i x j f (b .first j s a (eqb-false j x z))))
-            (λ a ne. absurd (ne refl));
+        first = λ j m. older (λ j. Asks v T d j → getD (v .keys) i 0 ≤ getD (v .keys) j 0) j m
+            (λ s a. omega (arith, ltb-true (getD (v .keys) i 0) (getD (v .keys) x 0) (g (few x (b .inside))), b .first j s a))
+            (λ a. omega arith);
       }
 
-      -- Who asked before goes before it.
-      stays : (x : ℕ) → Choice v S d x → x < 256 → goesFirst (v .latests) i x ≡ false → Choice v T d x
-      unfolding Choice
+      -- Who asked before stays: i does not go before it.
+      stays : (x : ℕ) → Choice v S d x → x < 256 → goesFirst (v .keys) i x ≡ false → Choice v T d x
+      unfolding Choice goesFirst
       stays x (inl w) h g = absurd (omega (arith, w .0))
       stays x (inr b) h g = inr (record {
         inside = up x (b .inside);
         asks = b .asks;
-        first = λ j m. older (λ j. Asks v T d j → (j ≡ x → ⊥) → goesFirst (v .latests) x j ≡ true) j m
-            (λ s a ne. b .first j s a ne)
-            (λ a ne. first-total (v .latests) i x (λ z. ne (sym z)) g);
+        first = λ j m. older (λ j. Asks v T d j → getD (v .keys) x 0 ≤ getD (v .keys) j 0) j m
+            (λ s a. b .first j s a)
+            (λ a. ltb-false (getD (v .keys) i 0) (getD (v .keys) x 0) g);
       })
 
       -- The choices once it has the desk.
@@ -123,11 +120,11 @@ module _ (v : View) (S T : ℕ → Type 0) (up : (j : ℕ) → S j → T j) wher
           (λ z. let ne = eqb-false e d z in
           rw (at-other count chosen busy (l .working) d i on small e ne) (other-desk e ne _ (l .choices e h)))
 
-      pub looked-offered : (p : Picks) → p ≡ offered (v .latests) i d (picks count chosen busy)
+      pub looked-offered : (p : Picks) → p ≡ offered (v .keys) i d (picks count chosen busy)
           → LookedAt v T (p .count) (p .chosen) (p .busy) next
       unfolding offered
       looked-offered p q = by-test (ltb (getD chosen d 0) 256)
-          (λ e. let h = ltb-true (getD chosen d 0) 256 e in by-test (goesFirst (v .latests) i (getD chosen d 0))
+          (λ e. let h = ltb-true (getD chosen d 0) 256 e in by-test (goesFirst (v .keys) i (getD chosen d 0))
           (λ g. rw (q ∙ when-true _ _ _ e ∙ when-true _ _ _ g) (record {
             choices = choices-taken (taken (getD chosen d 0) (l .choices d on) (λ y. g));
             working = busy-again count chosen busy (l .working) d i on small h;

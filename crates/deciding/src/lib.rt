@@ -17,28 +17,13 @@ pub struct Look {
     pub next: u32,
 }
 
-// Piece i goes before piece x: by the latest moment, and on an equal one by the number.
-fn goes_first(latests: &[i32; 256], i: usize, x: usize) -> bool
+// The one of two pieces that goes first: its key is smaller. One comparison tells, and its answer is stored whichever it
+// is, since a branch on it could not be foretold.
+fn first_of(keys: &[u64; 256], i: usize, x: usize) -> usize
     requires { ⌜ (i < 256) × (x < 256) ⌝ }
-    ensures { λ r. ⌜ r ≡ goesFirst (now (latests .entry)) i x ⌝ }
+    ensures { λ r. ⌜ (r ≡ when (goesFirst (now (keys .entry)) i x) i x) × (r < 256) ⌝ }
 {
-    let a = latests[i];
-    let b = latests[x];
-    if a < b {
-        return true;
-    }
-    if a == b {
-        return i < x;
-    }
-    false
-}
-
-// The one of two pieces that goes first. It is stored whichever it is: a branch on it could not be foretold.
-fn first_of(latests: &[i32; 256], i: usize, x: usize) -> usize
-    requires { ⌜ (i < 256) × (x < 256) ⌝ }
-    ensures { λ r. ⌜ (r ≡ when (goesFirst (now (latests .entry)) i x) i x) × (r < 256) ⌝ }
-{
-    if goes_first(latests, i, x) { i } else { x }
+    if keys[i] < keys[x] { i } else { x }
 }
 
 // Piece i is put up for desk d. A desk that nobody asked for yet joins those that work.
@@ -46,13 +31,13 @@ fn offer(
     i: usize,
     d: usize,
     count: usize,
-    latests: &[i32; 256],
+    keys: &[u64; 256],
     chosen: &mut [u16; 32],
     busy: &mut [u16; 32],
 ) -> usize
     requires { ⌜ (i < 256) × (d < 32) × (255 < getD (now chosen) d 0 → count < 32) ⌝ }
     ensures { λ r. ⌜ picks r (now (chosen .exit)) (now (busy .exit))
-        ≡ offered (now (latests .entry)) i d (picks count (now (chosen .entry)) (now (busy .entry))) ⌝ }
+        ≡ offered (now (keys .entry)) i d (picks count (now (chosen .entry)) (now (busy .entry))) ⌝ }
 {
     let x = numbers::place(chosen[d]);
     if 255 < x {
@@ -60,7 +45,7 @@ fn offer(
         busy[count] = d as u16;
         return count + 1;
     }
-    chosen[d] = first_of(latests, i, x) as u16;
+    chosen[d] = first_of(keys, i, x) as u16;
     count
 }
 
@@ -70,7 +55,7 @@ fn choose(
     t: u32,
     opened: usize,
     desks: &[u8; 256],
-    latests: &[i32; 256],
+    keys: &[u64; 256],
     ready: &[u32; 256],
     table: &[u16; 256],
     chosen: &mut [u16; 32],
@@ -80,7 +65,7 @@ fn choose(
     requires { ⌜ (length (now busy) ≡ 32) × (length (now chosen) ≡ 32)
         × ((d : ℕ) → d < 32 → getD (now chosen) d 0 ≡ 256) ⌝ }
     ensures { λ r. ⌜ ((left : List ℕ)
-        → LookedAt (view t (now (desks .entry)) (now (latests .entry)) left (now (ready .entry)))
+        → LookedAt (view t (now (desks .entry)) (now (keys .entry)) left (now (ready .entry)))
         (Among (now (table .entry)) opened) (r .count) (now (chosen .exit)) (now (busy .exit)) (r .next)) ⌝ }
 {
     let mut count = 0;
@@ -92,7 +77,7 @@ fn choose(
             next = numbers::lesser(next, ready[i]);
             k += 1;
         } else {
-            count = offer(i, desks[i] as usize, count, latests, chosen, busy);
+            count = offer(i, desks[i] as usize, count, keys, chosen, busy);
             k += 1;
         }
     }
@@ -131,7 +116,7 @@ pub fn decide(
     t: u32,
     opened: usize,
     desks: &[u8; 256],
-    latests: &[i32; 256],
+    keys: &[u64; 256],
     left: &[u32; 256],
     ready: &[u32; 256],
     table: &[u16; 256],
@@ -140,12 +125,12 @@ pub fn decide(
 ) -> Look
     requires { ⌜ Lookable opened (now table) (now desks) ⌝ }
     requires { ⌜ (length (now busy) ≡ 32) × (t < 4294967295) ⌝ }
-    ensures { λ r. ⌜ Decided (view t (now (desks .entry)) (now (latests .entry)) (now (left .entry))
+    ensures { λ r. ⌜ Decided (view t (now (desks .entry)) (now (keys .entry)) (now (left .entry))
         (now (ready .entry)))
         (Among (now (table .entry)) opened) (r .count) (now (chosen .exit)) (now (busy .exit)) (r .next) ⌝ }
 {
     *chosen = [256; 32];
-    let look = choose(t, opened, desks, latests, ready, table, chosen, busy);
+    let look = choose(t, opened, desks, keys, ready, table, chosen, busy);
     let next = first_end(t, look.next, look.count, left, chosen, busy);
     Look {
         count: look.count,

@@ -8,21 +8,22 @@ use mathlib.Core.Path.{_≡_, sym, ap, _∙_}
 use native.Mathlib.Omega.{arith}
 use borrow.Author.Tests.{ltb-true, ltb-false}
 use lib.Dec.{ltb}
-use lib.IntN.{pos}
 use lib.ListN.{getD}
 use Rattle.rules.specs.Job.{Job, pieceCount, desk}
 use Rattle.rules.specs.Moments.{latest}
 use Rattle.rules.specs.Urgency.{workAt, worked}
 use Rattle.laws.proofs.Hours.{always-open}
+use Rattle.laws.proofs.Signed.{dn}
 use Rattle.laws.proofs.Slots.{Waits, by-choice, chosen-choice, resting-choice, worked-chosen}
 use Rattle.laws.proofs.Words.{by-test, true-or-false}
 use Rattle.links.proofs.Counting.{counted-most}
 use Rattle.slots.specs.Standing.{waitsOf, readyOf}
 use Rattle.slots.specs.Stretch.{at}
 use Rattle.slots.proofs.Standing.{ready-waits, waits-ready}
+use Rattle.steps.specs.Keys.{keyOf}
 use Rattle.steps.specs.Choice.{View, Asks, Choice, Busy, codeOf}
 use Rattle.steps.proofs.Moved.{Desks, not-moved, moved}
-use Rattle.steps.proofs.Precedence.{first-sooner}
+use Rattle.steps.proofs.Precedence.{key-sooner}
 
 -- No more desks work than there are.
 pub busy-few : (count : ℕ) (chosen busy : List ℕ) → Busy count chosen busy → count ≤ 32
@@ -34,7 +35,8 @@ pub record Shown (J : Job) (n : ℕ) (v : View) (S : ℕ → Type 0) : Type 0 wh
   pub few : n ≤ 256
   pub desk-is : (i : ℕ) → i < n → desk J i ≡ getD (v .desks) i 0
   pub desk-most : (i : ℕ) → i < n → getD (v .desks) i 0 < 32
-  pub latest-is : (i : ℕ) → i < n → getD (v .latests) i (pos 0) ≡ latest J i
+  pub key-is : (i : ℕ) → i < n → getD (v .keys) i 0 ≡ keyOf (latest J i) i
+  pub not-far : (i : ℕ) → i < n → dn (latest J i) ≤ 524288
   pub left-is : (i : ℕ) → i < n → getD (v .left) i 0 ≡ at J (v .moment) i .left
   pub ready-is : (i : ℕ) → i < n → getD (v .ready) i 0 ≡ readyOf J (at J (v .moment)) i
   pub inside : (i : ℕ) → S i → i < n
@@ -74,8 +76,10 @@ module _ (J : Job) (n : ℕ) (v : View) (S : ℕ → Type 0) (s : Shown J n v S)
         waits = asks-waits d x (b .inside) (b .asks);
         first = λ j u ne.
             let a = waits-asks d j u in
-            first-sooner (v .latests) J x j (s .latest-is x (s .inside x (b .inside)))
-            (s .latest-is j (s .inside j (a .0))) (b .first j (a .0) (a .1) ne);
+            let hx = s .inside x (b .inside) in
+            let hj = s .inside j (a .0) in
+            key-sooner J x j (omega (arith, hx, s .few)) (omega (arith, hj, s .few)) (s .not-far x hx) (s .not-far j hj) ne
+            (rw (s .key-is x hx, s .key-is j hj) at (b .first j (a .0) (a .1)));
       })))
 
   -- The table of the desks that work has those that do, and the other desks rest.

@@ -12,6 +12,7 @@ use Rattle.rules.specs.Rings.{ringPiece}
 use Rattle.rules.specs.Tables.{Sound}
 use Rattle.rules.specs.Urgency.{horizon}
 use Rattle.laws.proofs.Finishing.{horizon-most}
+use Rattle.laws.proofs.Latest.{latest-least}
 use Rattle.laws.proofs.Sound.{fits}
 use Rattle.slots.specs.Stretch.{at, Stretch}
 use Rattle.slots.proofs.Ended.{Ended}
@@ -27,6 +28,7 @@ use Rattle.steps.proofs.LogHeld.{LogHeld}
 use Rattle.steps.proofs.LogStep.{note-step}
 use Rattle.steps.proofs.Moved.{Desks}
 use Rattle.steps.proofs.NextMoment.{desks, next-ahead, next-most, quiet-until, no-next, next-within}
+use Rattle.steps.proofs.Precedence.{not-far}
 use Rattle.steps.proofs.WorkStep.{WorkHeld, work-step}
 
 -- The tables hold the plan at moment t.
@@ -46,7 +48,7 @@ module _ (J : Job) (sound : Sound J) (free : ringPiece J ≡ none) (T : Tables) 
   module _ (t : ℕ) (w : Work) (s : Waiting) (l : Log) (h : Held J (T .pieces) (T .desks) t w s l) (opened : ℕ)
       (table place : List ℕ) (o : Opening (T .pieces) opened table place (unfinished (w .left)) (s .waits)) where
     abbrev seen : View
-    seen = view t (T .desks) (T .latests) (w .left) (s .ready)
+    seen = view t (T .desks) (T .keys) (w .left) (s .ready)
 
     abbrev openPiece : ℕ → Type 0
     openPiece = Among table opened
@@ -64,7 +66,8 @@ module _ (J : Job) (sound : Sound J) (free : ringPiece J ≡ none) (T : Tables) 
       few = few-pieces;
       desk-is = L .desk-is;
       desk-most = λ i b. rw (L .desk-is i b) at (few-desks i b);
-      latest-is = L .latest-is;
+      key-is = L .key-is;
+      not-far = λ i b. not-far _ (latest-least J sound free i (rw (L .count) b));
       left-is = h .working .left-is;
       ready-is = h .waiting .ready-is;
       inside = open-inside;

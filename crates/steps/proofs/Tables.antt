@@ -3,13 +3,13 @@ use Prim.Native.Nat.{ℕ, zero, suc, _+_, _<_}
 use mathlib.Core.List.{List, [], _∷_, _++_}
 use mathlib.Core.Path.{_≡_, refl, ap, _∙_}
 use native.Mathlib.Omega.{arith}
-use lib.IntN.{pos}
 use lib.ListN.{getD, length-map}
 use Rattle.rules.specs.Words.{row, below}
 use Rattle.rules.specs.Job.{Job, piece, desk, duration, noPiece}
 use Rattle.rules.specs.Moments.{latest}
 use Rattle.rules.specs.Tables.{pieceIn, piecesIn, linksIn, jobIn}
 use Rattle.laws.proofs.Words.{length-below, getD-below}
+use Rattle.steps.specs.Keys.{keyOf}
 use Rattle.steps.specs.Tables.{Tables, Listed}
 
 -- The job that the tables and a table of dues make.
@@ -22,7 +22,7 @@ module _ (T : Tables) (dues : List ℕ) where
   unfolding jobIn piecesIn
   piece-is i h = getD-below (pieceIn (T .desks) (T .durations) (T .releases) dues) noPiece (T .pieces) i h
 
-  pub listed : ((i : ℕ) → i < T .pieces → getD (T .latests) i (pos 0) ≡ latest (jobOf T dues) i)
+  pub listed : ((i : ℕ) → i < T .pieces → getD (T .keys) i 0 ≡ keyOf (latest (jobOf T dues) i) i)
       → Listed (jobOf T dues) T
   unfolding jobIn piecesIn linksIn pieceIn
   listed h = record {
@@ -32,7 +32,7 @@ module _ (T : Tables) (dues : List ℕ) where
     duration-is = λ i l. ap (λ p. p .duration) (piece-is i l);
     release-is = λ i l. ap (λ p. p .release) (piece-is i l);
     links-are = refl;
-    latest-is = h;
+    key-is = h;
   }
 
 -- One number more in a row.

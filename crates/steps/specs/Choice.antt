@@ -14,25 +14,22 @@ use Rattle.rules.specs.Words.{when}
 use Rattle.links.specs.Links.{counted}
 use Rattle.steps.specs.Opening.{Among}
 
--- What a decision looks at: the moment, and for each piece its desk, its latest moment, the slots left of it, and from
--- when on it may be ready.
+-- What a decision looks at: the moment, and for each piece its desk, its key, the slots left of it, and from when on it
+-- may be ready.
 pub record View : Type 0 where
   pub moment : ℕ
   pub desks : List ℕ
-  pub latests : List ℤ
+  pub keys : List ℕ
   pub left : List ℕ
   pub ready : List ℕ
 
-abbrev pub view : ℕ → List ℕ → List ℤ → List ℕ → List ℕ → View
-view t desks latests left ready =
-    record { moment = t; desks = desks; latests = latests; left = left; ready = ready }
+abbrev pub view : ℕ → List ℕ → List ℕ → List ℕ → List ℕ → View
+view t desks keys left ready =
+    record { moment = t; desks = desks; keys = keys; left = left; ready = ready }
 
--- Piece i goes before piece x: its latest moment is smaller, or on an equal one its number is.
-unfoldable pub goesFirst : List ℤ → ℕ → ℕ → Bool
-unfolding when
-goesFirst latests i x =
-    when (ltZ (getD latests i (pos 0)) (getD latests x (pos 0))) true
-    (when (ltZ (getD latests x (pos 0)) (getD latests i (pos 0))) false (ltb i x))
+-- Piece i goes before piece x: its key is smaller.
+unfoldable pub goesFirst : List ℕ → ℕ → ℕ → Bool
+goesFirst keys i x = ltb (getD keys i 0) (getD keys x 0)
 
 abbrev pub never : ℕ
 never = 4294967295
@@ -43,11 +40,11 @@ module _ (v : View) (S : ℕ → Type 0) where
   abbrev pub Asks : ℕ → ℕ → Type 0
   Asks d i = (getD (v .desks) i 0 ≡ d) × (getD (v .ready) i 0 ≤ v .moment)
 
-  -- Piece x asks for desk d, and goes before the others that do.
+  -- Piece x asks for desk d, and nobody who does goes before it.
   pub record Best (d x : ℕ) : Type 0 where
     pub inside : S x
     pub asks : Asks d x
-    pub first : (j : ℕ) → S j → Asks d j → (j ≡ x → ⊥) → goesFirst (v .latests) x j ≡ true
+    pub first : (j : ℕ) → S j → Asks d j → getD (v .keys) x 0 ≤ getD (v .keys) j 0
 
   -- The choice x of desk d.
   unfoldable pub Choice : ℕ → ℕ → Type 0
@@ -79,11 +76,11 @@ pub record Picks : Type 0 where
 abbrev pub picks : ℕ → List ℕ → List ℕ → Picks
 picks count chosen busy = record { count = count; chosen = chosen; busy = busy }
 
-unfoldable pub offered : List ℤ → ℕ → ℕ → Picks → Picks
+unfoldable pub offered : List ℕ → ℕ → ℕ → Picks → Picks
 unfolding when goesFirst
-offered latests i d p =
+offered keys i d p =
     when (ltb (getD (p .chosen) d 0) 256)
-    (when (goesFirst latests i (getD (p .chosen) d 0)) (picks (p .count) (set (p .chosen) d i) (p .busy)) p)
+    (when (goesFirst keys i (getD (p .chosen) d 0)) (picks (p .count) (set (p .chosen) d i) (p .busy)) p)
     (picks (p .count + 1) (set (p .chosen) d i) (set (p .busy) (p .count) d))
 
 -- The moments at which the pieces chosen by the first k of the desks that work would be finished count too.

@@ -5,3 +5,4 @@ pub mod Choice
 pub mod Work
 pub mod Log
 pub mod Handover
+pub mod Keys

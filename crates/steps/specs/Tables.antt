@@ -1,13 +1,13 @@
--- What the tables say of a job: its pieces and links, and the latest moments of its pieces.
+-- What the tables say of a job: its pieces and links, and the keys of its pieces.
 use Prim.Native.Nat.{ℕ, _<_}
 use mathlib.Core.List.{List, map}
 use mathlib.Core.Path.{_≡_}
-use lib.IntN.{ℤ, pos}
 use lib.ListN.{getD}
 use Rattle.rules.specs.Words.{below}
 use Rattle.rules.specs.Job.{Job, pieceCount, piece, desk, duration}
 use Rattle.rules.specs.Moments.{latest}
 use Rattle.rules.specs.Tables.{linkIn}
+use Rattle.steps.specs.Keys.{keyOf}
 
 -- The counts of pieces and of links, the pieces' tables and the links' tables.
 pub record Tables : Type 0 where
@@ -19,7 +19,7 @@ pub record Tables : Type 0 where
   pub befores : List ℕ
   pub afters : List ℕ
   pub handovers : List ℕ
-  pub latests : List ℤ
+  pub keys : List ℕ
 
 -- They are those of the job.
 pub record Listed (J : Job) (T : Tables) : Type 0 where
@@ -28,4 +28,4 @@ pub record Listed (J : Job) (T : Tables) : Type 0 where
   pub duration-is : (i : ℕ) → i < T .pieces → duration J i ≡ getD (T .durations) i 0
   pub release-is : (i : ℕ) → i < T .pieces → piece J i .release ≡ getD (T .releases) i 0
   pub links-are : J .links ≡ map (linkIn (T .befores) (T .afters) (T .handovers)) (below (T .links))
-  pub latest-is : (i : ℕ) → i < T .pieces → getD (T .latests) i (pos 0) ≡ latest J i
+  pub key-is : (i : ℕ) → i < T .pieces → getD (T .keys) i 0 ≡ keyOf (latest J i) i

@@ -10,7 +10,7 @@ use lib.Seq.{getD-set-same, getD-set-other}
 use Rattle.laws.proofs.Words.{by-test}
 use Rattle.urgency.specs.Plan.{Begun}
 
-filled : (T : List ℕ) (i x : ℕ) (f : ℕ → ℕ) → i < length T → ((j : ℕ) → j < i → getD T j 0 ≡ f j) → x ≡ f i
+pub filled : (T : List ℕ) (i x : ℕ) (f : ℕ → ℕ) → i < length T → ((j : ℕ) → j < i → getD T j 0 ≡ f j) → x ≡ f i
     → (j : ℕ) → j < i + 1 → getD (set T i x) j 0 ≡ f j
 filled T i x f b h e j l = by-test (eqb j i)
     (λ q. let z : j ≡ i = eqb-true j i q in rw (z, getD-set-same T i x 0 b) e)

@@ -29,14 +29,14 @@ use Rattle.steps.proofs.Begin.{begun-work, begun-waits, begun-log}
 use Rattle.steps.proofs.Scores.{scores-most}
 use Rattle.steps.proofs.Step.{Held, few-pieces, few-desks, ahead, at-most, within, finished, step}
 use Rattle.steps.proofs.Tables.{jobOf, listed}
-use Rattle.urgency.specs.Plan.{Given, Planned, Begun}
+use Rattle.urgency.specs.Plan.{Ranked, Planned, Begun}
 
 module _ (T : Tables) (dues : List ℕ) where
   abbrev pub job : Job
   job = jobOf T dues
 
   abbrev pub seen : ℕ → Work → Waiting → View
-  seen t w s = view t (T .desks) (T .latests) (w .left) (s .ready)
+  seen t w s = view t (T .desks) (T .keys) (w .left) (s .ready)
 
   -- The loop stands at moment t: the tables hold the plan, and one has the open pieces.
   pub record Standing (t opened : ℕ) (w : Work) (s : Waiting) (l : Log) (table place busy : List ℕ) : Type 0 where
@@ -44,9 +44,9 @@ module _ (T : Tables) (dues : List ℕ) where
     pub opening : Opening (T .pieces) opened table place (unfinished (w .left)) (s .waits)
     pub busy-sized : length busy ≡ 32
 
-  module _ (g : Given job (T .pieces) (T .latests)) where
+  module _ (g : Ranked job (T .pieces) (T .keys)) where
     lists : Listed job T
-    lists = listed T dues (g .latest-is)
+    lists = listed T dues (g .key-is)
 
     pub few : T .pieces ≤ 256
     few = few-pieces job (g .sound) (g .free) T lists

@@ -12,6 +12,7 @@ use Rattle.rules.specs.Rings.{ringPiece}
 use Rattle.rules.specs.Runs.{runs}
 use Rattle.rules.specs.Tables.{Sound}
 use Rattle.rules.specs.Urgency.{start, finish}
+use Rattle.steps.specs.Keys.{keyOf}
 use Rattle.steps.specs.Log.{loggedRuns}
 
 -- The job was read and judged, and its latest moments are known.
@@ -19,6 +20,12 @@ pub record Given (J : Job) (n : ℕ) (latests : List ℤ) : Type 0 where
   pub sound : Sound J
   pub free : ringPiece J ≡ none
   pub latest-is : (i : ℕ) → i < n → getD latests i (pos 0) ≡ latest J i
+
+-- The same with the keys made of them.
+pub record Ranked (J : Job) (n : ℕ) (keys : List ℕ) : Type 0 where
+  pub sound : Sound J
+  pub free : ringPiece J ≡ none
+  pub key-is : (i : ℕ) → i < n → getD keys i 0 ≡ keyOf (latest J i) i
 
 -- The tables that are filled have the places that their types say.
 pub record Sized (starts finishes pieces froms untils : List ℕ) : Type 0 where

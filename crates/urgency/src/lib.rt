@@ -1,6 +1,9 @@
 // The plan by urgency, by decision moments: from one moment at which some piece becomes ready or is finished to the
 // next, never slot by slot. The pieces and links come in lent tables, and so do start, finish and the log of the
 // runs.
+pub mod keys;
+
+use crate::keys::rank;
 use moving::handover;
 use moving::log;
 use moving::table::mark;
@@ -9,7 +12,7 @@ ghost use mathlib.Core.Path.{_≡_};
 ghost use Prim.Native.Nat.{_≤_};
 ghost use lib.ListN.{length};
 ghost use Rattle.rules.specs.Tables.{jobIn};
-ghost use Rattle.urgency.specs.Plan.{Given, Sized, Planned, Begun};
+ghost use Rattle.urgency.specs.Plan.{Given, Ranked, Sized, Planned, Begun};
 
 // Fills the tables of the pieces as they are before the first slot.
 fn begin(
@@ -37,10 +40,9 @@ fn begin(
     }
 }
 
-// The plan of n pieces and m links. It fills start and finish of every piece and the log of the runs, in the order in
-// which they begin, and returns the count of the runs. The latest moments say all that urgency asks of the dues; the job
-// of the contract has them, so they are lent too.
-pub fn plan(
+// The plan of n pieces and m links, whose keys are known. The keys say all that urgency asks of the dues; the job of the
+// contract has them, so they are lent too.
+fn plan_by(
     n: usize,
     m: usize,
     desks: &[u8; 256],
@@ -50,15 +52,15 @@ pub fn plan(
     befores: &[u16; 1024],
     afters: &[u16; 1024],
     handovers: &[u16; 1024],
-    latests: &[i32; 256],
+    keys: &[u64; 256],
     start: &mut [u32; 256],
     finish: &mut [u32; 256],
     piece: &mut [u16; 512],
     from: &mut [u32; 512],
     until: &mut [u32; 512],
 ) -> usize
-    requires { ⌜ Given (jobIn n m (now desks) (now durations) (now releases) (now dues) (now befores) (now afters)
-        (now handovers)) n (now latests) ⌝ }
+    requires { ⌜ Ranked (jobIn n m (now desks) (now durations) (now releases) (now dues) (now befores) (now afters)
+        (now handovers)) n (now keys) ⌝ }
     requires { ⌜ Sized (now start) (now finish) (now piece) (now from) (now until) ⌝ }
     ensures { λ r. ⌜ Planned (jobIn n m (now (desks .entry)) (now (durations .entry)) (now (releases .entry))
         (now (dues .entry)) (now (befores .entry)) (now (afters .entry)) (now (handovers .entry))) n (now (desks .entry))
@@ -86,7 +88,7 @@ pub fn plan(
             t,
             opened,
             desks,
-            latests,
+            keys,
             &left,
             &ready,
             &table,
@@ -140,4 +142,51 @@ pub fn plan(
         );
         t = look.next;
     }
+}
+
+// The plan of n pieces and m links. It fills start and finish of every piece and the log of the runs, in the order in
+// which they begin, and returns the count of the runs. The dues are lent since the job of the contract has them.
+pub fn plan(
+    n: usize,
+    m: usize,
+    desks: &[u8; 256],
+    durations: &[u16; 256],
+    releases: &[u32; 256],
+    dues: &[u32; 256],
+    befores: &[u16; 1024],
+    afters: &[u16; 1024],
+    handovers: &[u16; 1024],
+    latests: &[i32; 256],
+    start: &mut [u32; 256],
+    finish: &mut [u32; 256],
+    piece: &mut [u16; 512],
+    from: &mut [u32; 512],
+    until: &mut [u32; 512],
+) -> usize
+    requires { ⌜ Given (jobIn n m (now desks) (now durations) (now releases) (now dues) (now befores) (now afters)
+        (now handovers)) n (now latests) ⌝ }
+    requires { ⌜ Sized (now start) (now finish) (now piece) (now from) (now until) ⌝ }
+    ensures { λ r. ⌜ Planned (jobIn n m (now (desks .entry)) (now (durations .entry)) (now (releases .entry))
+        (now (dues .entry)) (now (befores .entry)) (now (afters .entry)) (now (handovers .entry))) n (now (desks .entry))
+        (now (start .exit)) (now (finish .exit)) (now (piece .exit)) (now (from .exit)) (now (until .exit)) r ⌝ }
+{
+    let mut keys = [0u64; 256];
+    rank(n, latests, &mut keys);
+    plan_by(
+        n,
+        m,
+        desks,
+        durations,
+        releases,
+        dues,
+        befores,
+        afters,
+        handovers,
+        &keys,
+        start,
+        finish,
+        piece,
+        from,
+        until,
+    )
 }

@@ -14,16 +14,16 @@ use Rattle.deciding.proofs.choose.Statement.{statement}
 use Rattle.deciding.proofs.choose.Tie as tie
 
 abbrev Inv-loop : tie.InvT-loop
-Inv-loop t opened desks latests ready table chosen₀ busy₀ count₀ next₀ k₀ chosen busy count next k =
+Inv-loop t opened desks keys ready table chosen₀ busy₀ count₀ next₀ k₀ chosen busy count next k =
     (k ≤ opened)
-    × ((left : List ℕ) → LookedAt (view t desks latests left ready) (Among table k) count chosen busy next)
+    × ((left : List ℕ) → LookedAt (view t desks keys left ready) (Among table k) count chosen busy next)
 
 abbrev μ-loop : tie.MeasureT-loop
-μ-loop t opened desks latests ready table chosen₀ busy₀ count₀ next₀ k₀ chosen busy count next k = opened - k
+μ-loop t opened desks keys ready table chosen₀ busy₀ count₀ next₀ k₀ chosen busy count next k = opened - k
 
 -- What the function sees.
 abbrev seen : tie.Start Inv-loop μ-loop → List ℕ → View
-seen s left = let a = s .args in view (a .t) (a .desks .now) (a .latests .now) left (a .ready .now)
+seen s left = let a = s .args in view (a .t) (a .desks .now) (a .keys .now) left (a .ready .now)
 
 loop-holds : tie.Need-loop-holds Inv-loop μ-loop
 loop-holds c =

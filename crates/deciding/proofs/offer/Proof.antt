@@ -81,8 +81,8 @@ returns-2 c =
     let p = c .before .before in
     let a = p .before .before .args in
     ap (λ x. picks (a .count) (set (a .chosen .now) (a .d) x) (a .busy .now))
-    (c .first-of .ensures .0 ∙ ap (λ x. when (goesFirst (a .latests .now) (a .i) x) (a .i) x) (p .place .ensures))
-    ∙ stored (a .count) (a .d) (a .i) (a .chosen .now) (a .busy .now) (goesFirst (a .latests .now) (a .i) (getD (a .chosen .now) (a .d) 0))
+    (c .first-of .ensures .0 ∙ ap (λ x. when (goesFirst (a .keys .now) (a .i) x) (a .i) x) (p .place .ensures))
+    ∙ stored (a .count) (a .d) (a .i) (a .chosen .now) (a .busy .now) (goesFirst (a .keys .now) (a .i) (getD (a .chosen .now) (a .d) 0))
     ∙ sym (when-true _ _ _ (lt-ltb (getD (a .chosen .now) (a .d) 0) 256 (omega (arith, p .place .ensures, c .before .if1 .left))))
 
 pub offer-spec : {M : Type 1} → statement M
