@@ -218,7 +218,7 @@ hand-all-requires c κs =
                   (goes-on w .if1 .left),
             ),
             d .decide .ensures .looked-at .working,
-            working _ (l .opened) (r .count) (l .table) (chosen d) (busy d) (d .decide .ensures .start)
+            working _ (l .opened) (r .count) (l .table) (chosen d) (busy d) (d .decide .ensures .soon)
                 (d .decide .ensures .looked-at),
           ),
           record {
