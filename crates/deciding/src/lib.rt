@@ -1,5 +1,6 @@
 // One decision of the plan over lent tables: who every desk works on from a moment on, and until when nothing is decided
-// anew. It looks at the open pieces alone, those in the first places of `table`. 256 stands for no piece, and 4,294,967,295 for no later moment.
+// anew. It looks at the open pieces alone, those in the first places of `table`. 256 stands for no piece, and
+// 4,294,967,295 for no later moment.
 ghost use mathlib.Core.List.{List};
 ghost use mathlib.Core.Path.{_≡_};
 ghost use Prim.Native.Nat.{ℕ, _<_, _≤_};

@@ -1,5 +1,5 @@
-// What the links of a finished piece do to the pieces after them: each waits for one less, and is ready no sooner than the
-// delay allows. A piece that waits for none any more is open, and is put behind the open pieces in `table`.
+// What the links of a finished piece do to the pieces after them: each waits for one less, and is ready no sooner than
+// the delay allows. A piece that waits for none any more is open, and is put behind the open pieces in `table`.
 ghost use mathlib.Core.Path.{_≡_};
 ghost use Prim.Native.Nat.{_+_, _<_, _≤_};
 ghost use lib.Dec.{eqb};

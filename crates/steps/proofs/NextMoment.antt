@@ -45,7 +45,7 @@ module _ (J : Job) (n : ℕ) (v : View) (S : ℕ → Type 0) (s : Shown J n v S)
   pub next-ahead : v .moment < never → v .moment < next
   next-ahead h =
       rw (decided .next-is)
-      (end-above (v .moment) (v .left) chosen busy count (decided .start) (decided .looked-at .later .above h)
+      (end-above (v .moment) (v .left) chosen busy count (decided .soon) (decided .looked-at .later .above h)
       (λ k l. whom-waits k l .1))
 
   pub next-most : next ≤ never
@@ -53,7 +53,7 @@ module _ (J : Job) (n : ℕ) (v : View) (S : ℕ → Type 0) (s : Shown J n v S)
       omega (
         arith,
         decided .next-is,
-        end-most (v .moment) (v .left) chosen busy count (decided .start),
+        end-most (v .moment) (v .left) chosen busy count (decided .soon),
         decided .looked-at .later .most,
       )
 
@@ -74,7 +74,7 @@ module _ (J : Job) (n : ℕ) (v : View) (S : ℕ → Type 0) (s : Shown J n v S)
             arith,
             decided .next-is,
             rw (c, s .left-is i h) at
-                (end-counts (v .moment) (v .left) chosen busy count (decided .start) (w .0) (w .1)),
+                (end-counts (v .moment) (v .left) chosen busy count (decided .soon) (w .0) (w .1)),
           )
 
   next-ready : (i : ℕ) → i < n → 0 < at J (v .moment) i .left → waitsOf J (at J (v .moment)) i ≡ 0
@@ -84,7 +84,7 @@ module _ (J : Job) (n : ℕ) (v : View) (S : ℕ → Type 0) (s : Shown J n v S)
       omega (
         arith,
         decided .next-is,
-        end-most (v .moment) (v .left) chosen busy count (decided .start),
+        end-most (v .moment) (v .left) chosen busy count (decided .soon),
         decided .looked-at .later .counts i (s .everyone i h l w) (omega arith),
       )
 
@@ -100,10 +100,10 @@ module _ (J : Job) (n : ℕ) (v : View) (S : ℕ → Type 0) (s : Shown J n v S)
   -- If it comes at all, a piece is unfinished.
   unfinished-one : (next ≡ never → ⊥) → (i : ℕ) × (i < n) × (0 < at J (v .moment) i .left)
   unfinished-one ne =
-      go (end-from (v .moment) (v .left) chosen busy count (decided .start)) (decided .looked-at .later .from)
+      go (end-from (v .moment) (v .left) chosen busy count (decided .soon)) (decided .looked-at .later .from)
     where
-      go : (endNext (v .moment) (v .left) chosen busy count (decided .start) ≡ decided .start) ⊎ (0 < count)
-          → (decided .start ≡ never) ⊎ ((j : ℕ) × S j) → (i : ℕ) × (i < n) × (0 < at J (v .moment) i .left)
+      go : (endNext (v .moment) (v .left) chosen busy count (decided .soon) ≡ decided .soon) ⊎ (0 < count)
+          → (decided .soon ≡ never) ⊎ ((j : ℕ) × S j) → (i : ℕ) × (i < n) × (0 < at J (v .moment) i .left)
       go (inr w) r = let c = whom-waits 0 w in (whom 0, c .0, rw (s .left-is _ (c .0)) at (c .1))
       go (inl e) (inl q) = absurd (ne (decided .next-is ∙ e ∙ q))
       go (inl e) (inr w) = (w .0, s .inside (w .0) (w .1), s .unfinished (w .0) (w .1))

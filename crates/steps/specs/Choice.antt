@@ -97,9 +97,9 @@ pub record LookedAt (v : View) (S : ℕ → Type 0) (count : ℕ) (chosen busy :
 
 -- The whole decision: the next moment is that one, or an end before it.
 pub record Decided (v : View) (S : ℕ → Type 0) (count : ℕ) (chosen busy : List ℕ) (next : ℕ) : Type 0 where
-  pub start : ℕ
-  pub looked-at : LookedAt v S count chosen busy start
-  pub next-is : next ≡ endNext (v .moment) (v .left) chosen busy count start
+  pub soon : ℕ
+  pub looked-at : LookedAt v S count chosen busy soon
+  pub next-is : next ≡ endNext (v .moment) (v .left) chosen busy count soon
 
 -- The number that stands for who a desk works on.
 unfoldable pub codeOf : Option ℕ → ℕ

@@ -138,8 +138,8 @@ module _ (T : Tables) (dues : List ℕ) where
       next-small c = omega (arith, next-within c, horizon-most job (g .sound) (g .free))
 
       -- One step more, with what the code made of the tables.
-      pub goes : next < never → (w′ : Work) → w′ ≡ workTo (T .durations) t next chosen busy count w → (s′ : Waiting) (l′ : Log)
-          → l′ ≡ noteTo t next chosen busy count l
+      pub goes : next < never → (w′ : Work) → w′ ≡ workTo (T .durations) t next chosen busy count w
+          → (s′ : Waiting) (l′ : Log) → l′ ≡ noteTo t next chosen busy count l
           → s′ ≡ handTo (ties (T .desks) (T .befores) (T .afters) (T .handovers)) (T .links) next (w′ .left) chosen busy
           count s
           → Held job (T .pieces) (T .desks) next w′ s′ l′

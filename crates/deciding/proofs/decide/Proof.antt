@@ -22,7 +22,7 @@ returns : tie.Need-returns
 returns c =
     let k = c .before .before .before in
     record {
-      start = k .choose .result .next;
+      soon = k .choose .result .next;
       looked-at = k .choose .ensures (k .before .before .before .before .args .left .now);
       next-is = c .first-end .ensures;
     }

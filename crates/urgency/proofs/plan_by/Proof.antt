@@ -183,9 +183,6 @@ returns c =
 work-all-requires : tie.Need-work-all-requires Inv-loop μ-loop
 work-all-requires c κs = c .before .before .before .before .before .before .before .decide .ensures .looked-at .working
 
-note-all-requires : tie.Need-note-all-requires Inv-loop μ-loop
-note-all-requires c κs = c .before .before .before .before .before .before .before .before .before .before .before .before .before .before .decide .ensures .looked-at .working
-
 -- The way back from the last places of a turn.
 abbrev noted : tie.After-hand-all Inv-loop μ-loop → tie.After-note-all Inv-loop μ-loop
 noted c = c .before .before .before .before .before .before .before .before .before .before
@@ -198,6 +195,10 @@ goes-on c = c .before .before .before .before .before .before
 
 abbrev at-decision : tie.After-work-all Inv-loop μ-loop → tie.After-decide Inv-loop μ-loop
 at-decision c = goes-on c .before .before
+
+note-all-requires : tie.Need-note-all-requires Inv-loop μ-loop
+note-all-requires c κs =
+    let w = c .before .before .before .before .before .before in at-decision w .decide .ensures .looked-at .working
 
 hand-all-requires : tie.Need-hand-all-requires Inv-loop μ-loop
 hand-all-requires c κs =
@@ -218,7 +219,7 @@ hand-all-requires c κs =
                   (goes-on w .if1 .left),
             ),
             d .decide .ensures .looked-at .working,
-            working _ (l .opened) (r .count) (l .table) (chosen d) (busy d) (d .decide .ensures .start)
+            working _ (l .opened) (r .count) (l .table) (chosen d) (busy d) (d .decide .ensures .soon)
                 (d .decide .ensures .looked-at),
           ),
           record {

@@ -52,7 +52,7 @@ cast-note : tie.Need-cast-note Inv-loop μ-loop
 cast-note c = omega (arith, piece-in (c .before .before))
 
 note-requires : tie.Need-note-requires Inv-loop μ-loop
-note-requires c κs = (desk-in (c .before .before .before .before .before .before), piece-in (c .before .before .before .before .before .before))
+note-requires c κs = let t = c .before .before .before .before .before .before in (desk-in t, piece-in t)
 
 add-q : tie.Need-add-q Inv-loop μ-loop
 add-q c = omega (arith, place-in (c .before .before .before .before .before .before .before))

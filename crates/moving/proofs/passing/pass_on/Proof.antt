@@ -1,5 +1,6 @@
 -- `pass_on` walks the chain of the piece's links from the last one back. The loop's invariant: the chain stands at
--- the last of the first n links that is the piece's, and what these n pass on from here is all that is passed on; and the table has the open pieces.
+-- the last of the first n links that is the piece's, and what these n pass on from here is all that is passed on; and
+-- the table has the open pieces.
 use Prim.Native.Nat.{ℕ, suc, _+_, _-_, _≤_, _<_}
 use mathlib.Core.Path.{_≡_, refl, sym, ap, _∙_}
 use native.Mathlib.Omega.{arith}

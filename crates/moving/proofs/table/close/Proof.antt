@@ -69,7 +69,7 @@ cast-last : tie.Need-cast-last
 cast-last c = omega (arith, last-one (c .before .before))
 
 cast-table : tie.Need-cast-table
-cast-table c = omega (arith, last-one (c .before .before))
+cast-table c = let s = c .before .before in omega (arith, last-one s, place-in s, few s)
 
 mul-table : tie.Need-mul-table
 mul-table c = omega (arith, place-in (c .before .before), few (c .before .before))
