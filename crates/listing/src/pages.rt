@@ -20,8 +20,10 @@ pub fn put_piece_lines(
     at: usize,
     text: &mut [u8],
 ) -> usize
-    requires { ⌜ (n ≤ 256) × (at + 211 * n ≤ length (now text)) × ((i : ℕ) → i < n → Bounded (getD (now finishes) i 0) (getD (now latests) i (pos 0))) ⌝ }
-    ensures { λ r. ⌜ Puts (now (text .entry)) at (pieceLinesIn n (now (desks .entry)) (now (starts .entry)) (now (finishes .entry)) (now (latests .entry))) (now (text .exit)) r ⌝ }
+    requires { ⌜ (n ≤ 256) × (at + 211 * n ≤ length (now text)) × ((i : ℕ) → i < n → Bounded (getD (now finishes) i 0)
+        (getD (now latests) i (pos 0))) ⌝ }
+    ensures { λ r. ⌜ Puts (now (text .entry)) at (pieceLinesIn n (now (desks .entry)) (now (starts .entry))
+        (now (finishes .entry)) (now (latests .entry))) (now (text .exit)) r ⌝ }
 {
     let mut next = at;
     let mut i = 0;
@@ -52,7 +54,8 @@ fn put_logged_line(
     text: &mut [u8],
 ) -> usize
     requires { ⌜ RunFits k (now pieces) at (now text) ⌝ }
-    ensures { λ r. ⌜ Puts (now (text .entry)) at (runLineIn (now (desks .entry)) (now (pieces .entry)) (now (froms .entry)) (now (untils .entry)) desk k) (now (text .exit)) r ⌝ }
+    ensures { λ r. ⌜ Puts (now (text .entry)) at (runLineIn (now (desks .entry)) (now (pieces .entry))
+        (now (froms .entry)) (now (untils .entry)) desk k) (now (text .exit)) r ⌝ }
 {
     let piece = pieces[k];
     if desks[piece as usize] != desk {
@@ -72,8 +75,10 @@ fn put_desk_lines(
     at: usize,
     text: &mut [u8],
 ) -> usize
-    requires { ⌜ LogFits count (now pieces) × (at + length (deskLinesIn count (now desks) (now pieces) (now froms) (now untils) desk) + 141 ≤ length (now text)) ⌝ }
-    ensures { λ r. ⌜ Puts (now (text .entry)) at (deskLinesIn count (now (desks .entry)) (now (pieces .entry)) (now (froms .entry)) (now (untils .entry)) desk) (now (text .exit)) r ⌝ }
+    requires { ⌜ LogFits count (now pieces) × (at + length (deskLinesIn count (now desks) (now pieces) (now froms)
+        (now untils) desk) + 141 ≤ length (now text)) ⌝ }
+    ensures { λ r. ⌜ Puts (now (text .entry)) at (deskLinesIn count (now (desks .entry)) (now (pieces .entry))
+        (now (froms .entry)) (now (untils .entry)) desk) (now (text .exit)) r ⌝ }
 {
     let mut next = at;
     let mut k = 0;
@@ -94,8 +99,10 @@ pub fn put_run_lines(
     at: usize,
     text: &mut [u8],
 ) -> usize
-    requires { ⌜ LogFits count (now pieces) × (at + length (runLinesIn 32 count (now desks) (now pieces) (now froms) (now untils)) + 141 ≤ length (now text)) ⌝ }
-    ensures { λ r. ⌜ Puts (now (text .entry)) at (runLinesIn 32 count (now (desks .entry)) (now (pieces .entry)) (now (froms .entry)) (now (untils .entry))) (now (text .exit)) r ⌝ }
+    requires { ⌜ LogFits count (now pieces) × (at + length (runLinesIn 32 count (now desks) (now pieces) (now froms)
+        (now untils)) + 141 ≤ length (now text)) ⌝ }
+    ensures { λ r. ⌜ Puts (now (text .entry)) at (runLinesIn 32 count (now (desks .entry)) (now (pieces .entry))
+        (now (froms .entry)) (now (untils .entry))) (now (text .exit)) r ⌝ }
 {
     let mut next = at;
     let mut desk: u8 = 0;

@@ -14,8 +14,8 @@ use Rattle.rules.specs.Urgency.{start, finish}
 use Rattle.steps.specs.Log.{loggedRuns}
 use Rattle.urgency.specs.Plan.{Sized}
 
-pub record Finished (J : Job) (n : ℕ) (desks starts finishes : List ℕ) (latests : List ℤ) (pieces froms untils : List ℕ) (count : ℕ)
-    : Type 0 where
+pub record Finished (J : Job) (n : ℕ) (desks starts finishes : List ℕ) (latests : List ℤ)
+    (pieces froms untils : List ℕ) (count : ℕ) : Type 0 where
   pub sound : Sound J
   pub free : ringPiece J ≡ none
   pub pieces-are : pieceCount J ≡ n

@@ -15,7 +15,8 @@ pub fn put_blocks(
     buffer: &mut [u8],
 )
     requires { ⌜ (count ≤ 256) × (16 * count ≤ length (now buffer)) ⌝ }
-    ensures { λ _. ⌜ now (buffer .exit) ≡ sets (now (buffer .entry)) 0 (recordsIn 19 desk (now (counts .entry)) (now (starts .entry)) (now (ends .entry)) count) ⌝ }
+    ensures { λ _. ⌜ now (buffer .exit) ≡ sets (now (buffer .entry)) 0 (recordsIn 19 desk (now (counts .entry))
+        (now (starts .entry)) (now (ends .entry)) count) ⌝ }
 {
     let mut k = 0;
     while k < count {
@@ -34,7 +35,8 @@ pub fn put_runs(
     buffer: &mut [u8],
 )
     requires { ⌜ (count ≤ 512) × (at + 16 * count ≤ length (now buffer)) ⌝ }
-    ensures { λ _. ⌜ now (buffer .exit) ≡ sets (now (buffer .entry)) at (recordsIn 18 desk (now (pieces .entry)) (now (froms .entry)) (now (untils .entry)) count) ⌝ }
+    ensures { λ _. ⌜ now (buffer .exit) ≡ sets (now (buffer .entry)) at (recordsIn 18 desk (now (pieces .entry))
+        (now (froms .entry)) (now (untils .entry)) count) ⌝ }
 {
     let mut k = 0;
     while k < count {

@@ -16,7 +16,8 @@ fn key_of(latest: i32, i: usize) -> u64
 
 // The keys of n pieces.
 pub fn rank(n: usize, latests: &[i32; 256], keys: &mut [u64; 256])
-    requires { ⌜ (n ≤ 256) × (length (now keys) ≡ 256) × ((i : ℕ) → i < n → natAbs (getD (now latests) i (pos 0)) ≤ 500000) ⌝ }
+    requires { ⌜ (n ≤ 256) × (length (now keys) ≡ 256) × ((i : ℕ) → i < n → natAbs (getD (now latests) i (pos 0)) ≤
+        500000) ⌝ }
     ensures { λ _. ⌜ Keyed n (now (latests .entry)) (now (keys .exit)) ⌝ }
 {
     let mut i = 0;
