@@ -8,6 +8,8 @@ pub mod Order
 pub mod Delay
 pub mod Hours
 pub mod Reading
+pub mod Written
+pub mod Reread
 pub mod Prefix
 pub mod Settling
 pub mod Latest
@@ -16,3 +18,4 @@ pub mod Slots
 pub mod Progress
 pub mod Finishing
 pub mod Bytes
+pub mod Writing

@@ -25,13 +25,13 @@ kindNo (Tie l) = 1
 kindNo (Stop r) = 2
 kindNo Done = 3
 
-no-fault : (a b : ℕ) → firstFault a b ≡ 0 → (a ≡ 0) × (b ≡ 0)
+pub no-fault : (a b : ℕ) → firstFault a b ≡ 0 → (a ≡ 0) × (b ≡ 0)
 unfolding firstFault
 no-fault zero b h = (refl, h)
 no-fault (suc a) b h = absurd (omega arith)
 
 -- A record that was not refused has no fault.
-unfaulted : (f k : ℕ) (x item : Item) → unlessFault f k x ≡ item → (kindNo item ≡ 2 → ⊥) → (f ≡ 0) × (x ≡ item)
+pub unfaulted : (f k : ℕ) (x item : Item) → unlessFault f k x ≡ item → (kindNo item ≡ 2 → ⊥) → (f ≡ 0) × (x ≡ item)
 unfolding unlessFault
 unfaulted zero k x item h ne = (refl, h)
 unfaulted (suc f) k x item h ne = absurd (ne (sym (ap kindNo h)))
@@ -46,10 +46,10 @@ pub record LinkRead (J : Job) (l : Link) : Type 0 where
   pub room : length (J .links) < 1024
   pub fit : linkFault (pieceCount J) l ≡ 0
 
-work-inj : (p q : Piece) → Work p ≡ Work q → p ≡ q
+pub work-inj : (p q : Piece) → Work p ≡ Work q → p ≡ q
 work-inj p q e = cc
 
-tie-inj : (l m : Link) → Tie l ≡ Tie m → l ≡ m
+pub tie-inj : (l m : Link) → Tie l ≡ Tie m → l ≡ m
 tie-inj l m e = cc
 
 pub record-work : (J : Job) (k : ℕ) (r : List ℕ) (p : Piece) → judged J k r ≡ Work p → PieceRead J p
@@ -136,7 +136,7 @@ sound-empty = record {
 }
 
 -- A job that was read is sound.
-accepted-inj : (J K : Job) → accepted J ≡ accepted K → J ≡ K
+pub accepted-inj : (J K : Job) → accepted J ≡ accepted K → J ≡ K
 accepted-inj J K e = cc
 
 abbrev isRefused : Outcome → ℕ

@@ -10,6 +10,7 @@ pub mod Moments
 pub mod Urgency
 pub mod Runs
 pub mod Bytes
+pub mod Writing
 pub mod Judgement
 pub mod Plan
 pub mod Entries
