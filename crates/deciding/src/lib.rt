@@ -18,8 +18,8 @@ pub struct Look {
     pub next: u32,
 }
 
-// The one of two pieces that goes first: its key is smaller. One comparison tells, and its answer is stored whichever it
-// is, since a branch on it could not be foretold.
+// The one of two pieces that goes first: its key is smaller. One comparison tells, where latest moments and numbers would
+// take two, whose answers cannot be foretold.
 fn first_of(keys: &[u64; 256], i: usize, x: usize) -> usize
     requires { ⌜ (i < 256) × (x < 256) ⌝ }
     ensures { λ r. ⌜ (r ≡ when (goesFirst (now (keys .entry)) i x) i x) × (r < 256) ⌝ }
