@@ -1,8 +1,8 @@
 -- `fill_sheet` meets its contract: the block method takes the finished plan.
 use mathlib.Core.Path.{refl}
 use Rattle.sheets.proofs.FilledLaws.{laid-here}
-use Rattle.sheets.proofs.sheet.fill_sheet.Statement.{statement}
-use Rattle.sheets.proofs.sheet.fill_sheet.Tie as tie
+use Rattle.sheets.proofs.fill.fill_sheet.Statement.{statement}
+use Rattle.sheets.proofs.fill.fill_sheet.Tie as tie
 
 finish-plan-requires : tie.Need-finish-plan-requires
 finish-plan-requires c κs =
