@@ -45,7 +45,9 @@ shared-slice-read-first : tie.Need-shared-slice-read-first Inv-loop μ-loop
 shared-slice-read-first c = omega arith
 
 cast-first : tie.Need-cast-first Inv-loop μ-loop
-cast-first c = omega (arith, c .before .before .before .before .pre .0 .known (c .before .before .loop .at) (omega arith))
+cast-first c =
+    let s4 = c .before .before .before .before in
+    omega (arith, s4 .pre .0 .known (c .before .before .loop .at) (omega arith))
 
 mul-gather-block : tie.Need-mul-gather-block Inv-loop μ-loop
 mul-gather-block c = omega (arith, c .before .before .before .before .pre .0 .few)
@@ -60,50 +62,89 @@ part-gather-block-end : tie.Need-part-gather-block-end Inv-loop μ-loop
 part-gather-block-end c = search needs
 
 gather-block-requires : tie.Need-gather-block-requires Inv-loop μ-loop
-gather-block-requires c κs = let a = c .before .before .before .before .before .args in
-    let s = c .before .before .before .loop in
+gather-block-requires c κs =
+    let s3 = c .before .before .before in
+    let s5 = s3 .before .before in
+    let a = s5 .args in
+    let s = s3 .loop in
     let e = same-rest (a .ids .now) (a .ids .now) (s .at) refl in
-    (rw e (listed-rest _ (a .ids .now) (s .at) (c .before .before .before .before .before .pre .0) (omega arith)), rw (e, length-drop) (omega arith))
+    (rw e (listed-rest _ (a .ids .now) (s .at) (s5 .pre .0) (omega arith)), rw (e, length-drop) (omega arith))
 
 cast-counts : tie.Need-cast-counts Inv-loop μ-loop
-cast-counts c = omega (arith, inside (c .before), c .before .before .before .before .before .before .before .pre .0 .few)
+cast-counts c =
+    let s7 = c .before .before .before .before .before .before .before in
+    omega (arith, inside (c .before), s7 .pre .0 .few)
 
 mul-counts : tie.Need-mul-counts Inv-loop μ-loop
-mul-counts c = omega (arith, c .before .before .before .before .before .before .before .pre .0 .few, c .before .before .before .before .before .loop .inv .few)
+mul-counts c =
+    let s5 = c .before .before .before .before .before in
+    let s7 = s5 .before .before in
+    omega (arith, s7 .pre .0 .few, s5 .loop .inv .few)
 
 element-write-counts : tie.Need-element-write-counts Inv-loop μ-loop
-element-write-counts c = omega (arith, c .before .before .before .before .before .before .before .pre .0 .few, c .before .before .before .before .before .loop .inv .few)
+element-write-counts c =
+    let s5 = c .before .before .before .before .before in
+    let s7 = s5 .before .before in
+    omega (arith, s7 .pre .0 .few, s5 .loop .inv .few)
 
 mul-starts : tie.Need-mul-starts Inv-loop μ-loop
-mul-starts c = omega (arith, c .before .before .before .before .before .before .before .pre .0 .known (c .before .before .before .before .before .loop .at) (omega arith))
+mul-starts c =
+    let s5 = c .before .before .before .before .before in
+    let s7 = s5 .before .before in
+    omega (arith, s7 .pre .0 .known (s5 .loop .at) (omega arith))
 
 element-copy-out-starts : tie.Need-element-copy-out-starts Inv-loop μ-loop
-element-copy-out-starts c = omega (arith, c .before .before .before .before .before .before .before .pre .0 .known (c .before .before .before .before .before .loop .at) (omega arith))
+element-copy-out-starts c =
+    let s5 = c .before .before .before .before .before in
+    let s7 = s5 .before .before in
+    omega (arith, s7 .pre .0 .known (s5 .loop .at) (omega arith))
 
 mul-starts-2 : tie.Need-mul-starts-2 Inv-loop μ-loop
-mul-starts-2 c = omega (arith, c .before .before .before .before .before .before .before .before .pre .0 .few, c .before .before .before .before .before .before .loop .inv .few)
+mul-starts-2 c =
+    let s6 = c .before .before .before .before .before .before in
+    let s8 = s6 .before .before in
+    omega (arith, s8 .pre .0 .few, s6 .loop .inv .few)
 
 element-write-starts : tie.Need-element-write-starts Inv-loop μ-loop
-element-write-starts c = omega (arith, c .before .before .before .before .before .before .before .before .pre .0 .few, c .before .before .before .before .before .before .loop .inv .few)
+element-write-starts c =
+    let s6 = c .before .before .before .before .before .before in
+    let s8 = s6 .before .before in
+    omega (arith, s8 .pre .0 .few, s6 .loop .inv .few)
 
 mul-ends : tie.Need-mul-ends Inv-loop μ-loop
-mul-ends c = omega (arith, c .before .before .before .before .before .before .before .before .pre .0 .few, c .before .before .before .before .before .before .loop .inv .few)
+mul-ends c =
+    let s6 = c .before .before .before .before .before .before in
+    let s8 = s6 .before .before in
+    omega (arith, s8 .pre .0 .few, s6 .loop .inv .few)
 
 element-write-ends : tie.Need-element-write-ends Inv-loop μ-loop
-element-write-ends c = omega (arith, c .before .before .before .before .before .before .before .before .pre .0 .few, c .before .before .before .before .before .before .loop .inv .few)
+element-write-ends c =
+    let s6 = c .before .before .before .before .before .before in
+    let s8 = s6 .before .before in
+    omega (arith, s8 .pre .0 .few, s6 .loop .inv .few)
 
 add-b : tie.Need-add-b Inv-loop μ-loop
-add-b c = omega (arith, c .before .before .before .before .before .before .before .before .pre .0 .few, c .before .before .before .before .before .before .loop .inv .few)
+add-b c =
+    let s6 = c .before .before .before .before .before .before in
+    let s8 = s6 .before .before in
+    omega (arith, s8 .pre .0 .few, s6 .loop .inv .few)
 
 add-at : tie.Need-add-at Inv-loop μ-loop
-add-at c = omega (arith, inside (c .before .before .before), c .before .before .before .before .before .before .before .before .before .pre .0 .few)
+add-at c =
+    let s3 = c .before .before .before in
+    let s9 = s3 .before .before .before .before .before .before in
+    omega (arith, inside (s3), s9 .pre .0 .few)
 
 loop-less : tie.Need-loop-less Inv-loop μ-loop
 loop-less c = omega (arith, extent (c .before .before .before) [] .some-one)
 
 loop-again : tie.Need-loop-again Inv-loop μ-loop
-loop-again c = recording-more _ _ (c .before .before .before .before .before .before .before .before .before .args .ids .now) _ _ _ (c .before .before .before .before .before .before .before .loop .b) (c .before .before .before .before .before .before .before .loop .at) (c .before .before .before .before .before .before .before .loop .inv) _ _ (omega arith)
-    (c .before .before .before .before .before .before .before .before .before .pre .0 .few) (extent (c .before .before .before))
+loop-again c =
+    let s3 = c .before .before .before in
+    let s7 = s3 .before .before .before .before in
+    let s9 = s7 .before .before in
+    recording-more _ _ (s9 .args .ids .now) _ _ _ (s7 .loop .b) (s7 .loop .at) (s7 .loop .inv) _ _ (omega arith)
+    (s9 .pre .0 .few) (extent (s3))
 
 returns : tie.Need-returns Inv-loop μ-loop
 returns c = recording-end _ _ _ _ _ _ _ _ (c .before .loop .inv) (omega arith)

@@ -42,13 +42,17 @@ element-copy-out-lateness-2 : tie.Need-element-copy-out-lateness-2 Inv-loop μ-l
 element-copy-out-lateness-2 c = omega (arith, c .before .before .before .pre .known 0 (omega arith))
 
 lateness-requires : tie.Need-lateness-requires Inv-loop μ-loop
-lateness-requires c κs = let a = c .before .before .before .before .args in
+lateness-requires c κs =
+    let s4 = c .before .before .before .before in
+    let a = s4 .args in
     let f : SFits w32 (getD (a .latests .now) (getD (a .pieces .now) 0 0) (pos 0)) =
     record { sfits = c .lateness-arg2 .given } in
-    (c .before .before .before .before .pre .early 0 (omega arith), rw (toZ-ofZ f) (c .before .before .before .before .pre .near 0 (omega arith)))
+    (s4 .pre .early 0 (omega arith), rw (toZ-ofZ f) (s4 .pre .near 0 (omega arith)))
 
 loop-holds : tie.Need-loop-holds Inv-loop μ-loop
-loop-holds c = let a = c .before .before .before .before .before .args in
+loop-holds c =
+    let s5 = c .before .before .before .before .before in
+    let a = s5 .args in
     let f : SFits w32 (getD (a .latests .now) (getD (a .pieces .now) 0 0) (pos 0)) =
     record { sfits = c .before .lateness-arg2 .given } in
     let e : c .lateness .result ≡ lateIn (a .latests .now) (a .pieces .now) (a .untils .now) 0 =
@@ -62,32 +66,51 @@ sub-k : tie.Need-sub-k Inv-loop μ-loop
 sub-k c = omega arith
 
 mul-i : tie.Need-mul-i Inv-loop μ-loop
-mul-i c = omega (arith, c .before .before .before .before .before .before .before .pre .known (c .before .loop .k - 1) (omega arith), c .before .before .before .before .before .before .before .pre .few)
+mul-i c =
+    let s7 = c .before .before .before .before .before .before .before in
+    omega (arith, s7 .pre .known (c .before .loop .k - 1) (omega arith), s7 .pre .few)
 
 element-copy-out-i : tie.Need-element-copy-out-i Inv-loop μ-loop
-element-copy-out-i c = omega (arith, c .before .before .before .before .before .before .before .pre .known (c .before .loop .k - 1) (omega arith), c .before .before .before .before .before .before .before .pre .few)
+element-copy-out-i c =
+    let s7 = c .before .before .before .before .before .before .before in
+    omega (arith, s7 .pre .known (c .before .loop .k - 1) (omega arith), s7 .pre .few)
 
 cast-i : tie.Need-cast-i Inv-loop μ-loop
-cast-i c = omega (arith, c .before .before .before .before .before .before .before .before .pre .known (c .before .before .loop .k - 1) (omega arith), c .before .before .before .before .before .before .before .before .pre .few)
+cast-i c =
+    let s8 = c .before .before .before .before .before .before .before .before in
+    omega (arith, s8 .pre .known (c .before .before .loop .k - 1) (omega arith), s8 .pre .few)
 
 mul-lateness-2 : tie.Need-mul-lateness-2 Inv-loop μ-loop
-mul-lateness-2 c = omega (arith, c .before .before .before .before .before .before .before .before .pre .known (c .before .before .loop .k - 1) (omega arith), c .before .before .before .before .before .before .before .before .pre .few)
+mul-lateness-2 c =
+    let s8 = c .before .before .before .before .before .before .before .before in
+    omega (arith, s8 .pre .known (c .before .before .loop .k - 1) (omega arith), s8 .pre .few)
 
 element-copy-out-lateness-3 : tie.Need-element-copy-out-lateness-3 Inv-loop μ-loop
-element-copy-out-lateness-3 c = omega (arith, c .before .before .before .before .before .before .before .before .pre .known (c .before .before .loop .k - 1) (omega arith), c .before .before .before .before .before .before .before .before .pre .few)
+element-copy-out-lateness-3 c =
+    let s8 = c .before .before .before .before .before .before .before .before in
+    omega (arith, s8 .pre .known (c .before .before .loop .k - 1) (omega arith), s8 .pre .few)
 
 mul-lateness-3 : tie.Need-mul-lateness-3 Inv-loop μ-loop
-mul-lateness-3 c = omega (arith, c .before .before .before .before .before .before .before .before .before .pre .known (c .before .before .before .loop .k - 1) (omega arith), c .before .before .before .before .before .before .before .before .before .pre .few)
+mul-lateness-3 c =
+    let s3 = c .before .before .before in
+    let s9 = s3 .before .before .before .before .before .before in
+    omega (arith, s9 .pre .known (s3 .loop .k - 1) (omega arith), s9 .pre .few)
 
 element-copy-out-lateness-4 : tie.Need-element-copy-out-lateness-4 Inv-loop μ-loop
-element-copy-out-lateness-4 c = omega (arith, c .before .before .before .before .before .before .before .before .before .pre .known (c .before .before .before .loop .k - 1) (omega arith), c .before .before .before .before .before .before .before .before .before .pre .few)
+element-copy-out-lateness-4 c =
+    let s3 = c .before .before .before in
+    let s9 = s3 .before .before .before .before .before .before in
+    omega (arith, s9 .pre .known (s3 .loop .k - 1) (omega arith), s9 .pre .few)
 
 lateness-requires-2 : tie.Need-lateness-requires-2 Inv-loop μ-loop
-lateness-requires-2 c κs = let a = c .before .before .before .before .before .before .before .before .before .before .args in
-    let j = c .before .before .before .before .loop .k - 1 in
+lateness-requires-2 c κs =
+    let s4 = c .before .before .before .before in
+    let s10 = s4 .before .before .before .before .before .before in
+    let a = s10 .args in
+    let j = s4 .loop .k - 1 in
     let f : SFits w32 (getD (a .latests .now) (getD (a .pieces .now) j 0) (pos 0)) =
     record { sfits = c .lateness-arg4 .given } in
-    (c .before .before .before .before .before .before .before .before .before .before .pre .early j (omega arith), rw (toZ-ofZ f) (c .before .before .before .before .before .before .before .before .before .before .pre .near j (omega arith)))
+    (s10 .pre .early j (omega arith), rw (toZ-ofZ f) (s10 .pre .near j (omega arith)))
 
 greater-requires : tie.Need-greater-requires Inv-loop μ-loop
 greater-requires c κs = search needs
@@ -96,8 +119,11 @@ loop-less : tie.Need-loop-less Inv-loop μ-loop
 loop-less c = omega arith
 
 loop-again : tie.Need-loop-again Inv-loop μ-loop
-loop-again c = let a = c .before .before .before .before .before .before .before .before .before .before .before .before .args in
-    let s = c .before .before .before .before .before .before .loop in
+loop-again c =
+    let s6 = c .before .before .before .before .before .before in
+    let s12 = s6 .before .before .before .before .before .before in
+    let a = s12 .args in
+    let s = s6 .loop in
     let j = s .k - 1 in
     let late = lateIn (a .latests .now) (a .pieces .now) (a .untils .now) in
     let f : SFits w32 (getD (a .latests .now) (getD (a .pieces .now) j 0) (pos 0)) =

@@ -116,22 +116,28 @@ cut-set-slice-read-first : (t : ℕ) → cut-set-lts.Need-slice-read-first (cut-
 cut-set-slice-read-first t c = omega arith
 
 cut-set-cast-first : (t : ℕ) → cut-set-lts.Need-cast-first (cut-set-calls t) (cut-set-at t) cut-set.Post cut-set-Inv-loop cut-set-μ-loop
-cut-set-cast-first t c = let s = c .before .before .loop in
-    let a = c .before .before .before .before .args in
+cut-set-cast-first t c =
+    let s4 = c .before .before .before .before in
+    let s = c .before .before .loop in
+    let a = s4 .args in
     let e : getD (s .ids) (s .at) 0 ≡ getD (a .ids .now) (s .at) 0 = same-at (s .ids) (a .ids .now) (s .at) (s .inv .2) in
-    omega (arith, c .before .before .before .before .pre .1 .listed .known (s .at) (omega arith))
+    omega (arith, s4 .pre .1 .listed .known (s .at) (omega arith))
 
 cut-set-mul-start : (t : ℕ) → cut-set-lts.Need-mul-start (cut-set-calls t) (cut-set-at t) cut-set.Post cut-set-Inv-loop cut-set-μ-loop
-cut-set-mul-start t c = let s = c .before .before .loop in
-    let a = c .before .before .before .before .args in
+cut-set-mul-start t c =
+    let s4 = c .before .before .before .before in
+    let s = c .before .before .loop in
+    let a = s4 .args in
     let e : getD (s .ids) (s .at) 0 ≡ getD (a .ids .now) (s .at) 0 = same-at (s .ids) (a .ids .now) (s .at) (s .inv .2) in
-    omega (arith, c .before .before .before .before .pre .1 .listed .known (s .at) (omega arith))
+    omega (arith, s4 .pre .1 .listed .known (s .at) (omega arith))
 
 cut-set-element-copy-out-start : (t : ℕ) → cut-set-lts.Need-element-copy-out-start (cut-set-calls t) (cut-set-at t) cut-set.Post cut-set-Inv-loop cut-set-μ-loop
-cut-set-element-copy-out-start t c = let s = c .before .before .loop in
-    let a = c .before .before .before .before .args in
+cut-set-element-copy-out-start t c =
+    let s4 = c .before .before .before .before in
+    let s = c .before .before .loop in
+    let a = s4 .args in
     let e : getD (s .ids) (s .at) 0 ≡ getD (a .ids .now) (s .at) 0 = same-at (s .ids) (a .ids .now) (s .at) (s .inv .2) in
-    omega (arith, c .before .before .before .before .pre .1 .listed .known (s .at) (omega arith))
+    omega (arith, s4 .pre .1 .listed .known (s .at) (omega arith))
 
 cut-set-mul-gather-block : (t : ℕ) → cut-set-lts.Need-mul-gather-block (cut-set-calls t) (cut-set-at t) cut-set.Post cut-set-Inv-loop cut-set-μ-loop
 cut-set-mul-gather-block t c = omega (arith, c .before .before .before .before .before .pre .1 .listed .few)
@@ -154,10 +160,15 @@ cut-set-gather-block-requires t c κs = let s = c .before .before .before .befor
     )
 
 cut-set-add-next : (t : ℕ) → cut-set-lts.Need-add-next (cut-set-calls t) (cut-set-at t) cut-set.Post cut-set-Inv-loop cut-set-μ-loop
-cut-set-add-next t c = omega (arith, c .before .before .before .before .before .before .before .before .before .pre .1 .listed .few, inside t (c .before))
+cut-set-add-next t c =
+    let s9 = c .before .before .before .before .before .before .before .before .before in
+    omega (arith, s9 .pre .1 .listed .few, inside t (c .before))
 
 cut-set-give-slots-requires : (t : ℕ) → cut-set-lts.Need-give-slots-requires (cut-set-calls t) (cut-set-at t) cut-set.Post cut-set-Inv-loop cut-set-μ-loop
-cut-set-give-slots-requires t c κs = (c .before .before .before .before .before .before .before .before .before .before .loop .inv .4, omega (arith, c .before .before .before .before .before .before .before .before .before .before .before .before .pre .1 .room))
+cut-set-give-slots-requires t c κs =
+    let s10 = c .before .before .before .before .before .before .before .before .before .before in
+    let s12 = s10 .before .before in
+    (s10 .loop .inv .4, omega (arith, s12 .pre .1 .room))
 
 cut-set-mul-solve-block : (t : ℕ) → cut-set-lts.Need-mul-solve-block (cut-set-calls t) (cut-set-at t) cut-set.Post cut-set-Inv-loop cut-set-μ-loop
 cut-set-mul-solve-block t c = omega (arith, c .before .before .before .before .before .before .before .before .before .before .before .before .before .pre .1 .listed .few)
@@ -169,34 +180,49 @@ cut-set-part-solve-block-start : (t : ℕ) → cut-set-lts.Need-part-solve-block
 cut-set-part-solve-block-start t c = omega arith
 
 cut-set-part-solve-block-end : (t : ℕ) → cut-set-lts.Need-part-solve-block-end (cut-set-calls t) (cut-set-at t) cut-set.Post cut-set-Inv-loop cut-set-μ-loop
-cut-set-part-solve-block-end t c = omega (arith, inside t (c .before .before .before .before .before), c .before .before .before .before .before .before .before .before .before .before .before .loop .inv .1)
+cut-set-part-solve-block-end t c =
+    let s5 = c .before .before .before .before .before in
+    let s11 = s5 .before .before .before .before .before .before in
+    omega (arith, inside t (s5), s11 .loop .inv .1)
 
 cut-set-solve-block-requires : (t : ℕ) → cut-set-lts.Need-solve-block-requires (cut-set-calls t) (cut-set-at t) cut-set.Post cut-set-Inv-loop cut-set-μ-loop
-cut-set-solve-block-requires t c κs = let a = c .before .before .before .before .before .before .before .before .before .before .before .before .before .before .before .before .before .before .args in
-    let s = c .before .before .before .before .before .before .before .before .before .before .before .before .before .before .before .before .loop in
-    let n = c .before .before .before .before .before .before .before .before .before .before .gather-block .result .count in
-    let p = c .before .before .before .before .before .before .before .before .before .before .before .before .before .before .before .before .before .before .pre .1 in
-    let i : s .at + n ≤ length (a .ids .now) = inside t (c .before .before .before .before .before .before .before .before .before .before) in
+cut-set-solve-block-requires t c κs =
+    let s5 = c .before .before .before .before .before in
+    let s10 = s5 .before .before .before .before .before in
+    let s16 = s10 .before .before .before .before .before .before in
+    let s18 = s16 .before .before in
+    let a = s18 .args in
+    let s = s16 .loop in
+    let n = s10 .gather-block .result .count in
+    let p = s18 .pre .1 in
+    let i : s .at + n ≤ length (a .ids .now) = inside t (s10) in
     let l : length (take (s .at + n - s .at) (drop (s .at) (s .ids))) ≡ n =
     part-length (s .ids) (s .at) n (omega (arith, s .inv .1)) in (
-      omega (arith, l, c .before .before .before .before .before .before .before .before .before .before .before .before .before .before .before .before .before .before .pre .0),
+      omega (arith, l, s18 .pre .0),
       record {
         links = p .links;
         listed = rw (part-same (s .ids) (a .ids .now) (s .at) n (s .inv .2)) (listed-part _ (a .ids .now) (s .at) n (p .listed) i);
         marks-sized = s .inv .3;
-        tables = c .before .before .before .before .before .give-slots .ensures .tables;
-        room = omega (arith, l, c .before .before .before .before .before .give-slots .ensures .few, p .room, s .inv .5);
+        tables = s5 .give-slots .ensures .tables;
+        room = omega (arith, l, s5 .give-slots .ensures .few, p .room, s .inv .5);
       },
     )
 
 cut-set-loop-less : (t : ℕ) → cut-set-lts.Need-loop-less (cut-set-calls t) (cut-set-at t) cut-set.Post cut-set-Inv-loop cut-set-μ-loop
-cut-set-loop-less t c = omega (arith, inside t (c .before .before .before .before .before .before .before .before .before .before .before .before .before), extent t (c .before .before .before .before .before .before .before .before .before .before .before .before .before) .some-one)
+cut-set-loop-less t c =
+    let s13 = c .before .before .before .before .before .before .before .before .before .before .before .before .before in
+    omega (arith, inside t (s13), extent t (s13) .some-one)
 
 cut-set-loop-again : (t : ℕ) → cut-set-lts.Need-loop-again (cut-set-calls t) (cut-set-at t) cut-set.Post cut-set-Inv-loop cut-set-μ-loop
-cut-set-loop-again t c = let a = c .before .before .before .before .before .before .before .before .before .before .before .before .before .before .before .before .before .before .before .before .before .args in
-    let s = c .before .before .before .before .before .before .before .before .before .before .before .before .before .before .before .before .before .before .before .loop in
-    let n = c .before .before .before .before .before .before .before .before .before .before .before .before .before .gather-block .result .count in
-    let i : s .at + n ≤ length (a .ids .now) = inside t (c .before .before .before .before .before .before .before .before .before .before .before .before .before) in
+cut-set-loop-again t c =
+    let s8 = c .before .before .before .before .before .before .before .before in
+    let s13 = s8 .before .before .before .before .before in
+    let s19 = s13 .before .before .before .before .before .before in
+    let s21 = s19 .before .before in
+    let a = s21 .args in
+    let s = s19 .loop in
+    let n = s13 .gather-block .result .count in
+    let i : s .at + n ≤ length (a .ids .now) = inside t (s13) in
     let l : length (take (s .at + n - s .at) (drop (s .at) (s .ids))) ≡ n =
     part-length (s .ids) (s .at) n (omega (arith, s .inv .1)) in
     let ys = c .before .before .solve-block .last .1 .1 .1 .1 .1 .1 .0 in
@@ -210,22 +236,25 @@ cut-set-loop-again t c = let a = c .before .before .before .before .before .befo
       omega (
         arith,
         l,
-        extent t (c .before .before .before .before .before .before .before .before .before .before .before .before .before) .some-one,
-        c .before .before .before .before .before .before .before .before .give-slots .ensures .few,
+        extent t (s13) .some-one,
+        s8 .give-slots .ensures .few,
         c .before .before .solve-block .ensures .0 .few,
         s .inv .5,
         share-most (a .aside),
       ),
       λ f h.
           next-block (a .m) (a .befores .now) (a .afters .now) (a .ready .now) (a .durations .now) (a .latests .now)
-          (s .ids) (a .ids .now) (s .at) n (c .before .before .before .before .before .before .before .before .before .before .before .before .before .gather-block .result .end) f (a .aside) (a .end) (s .t) (s .inv .2)
-          _ _ _ (extent t (c .before .before .before .before .before .before .before .before .before .before .before .before .before))
-          (c .before .before .before .before .before .before .before .before .give-slots .ensures .board) (c .before .before .solve-block .ensures .1) (omega (arith, l))
+          (s .ids) (a .ids .now) (s .at) n (s13 .gather-block .result .end) f (a .aside) (a .end) (s .t) (s .inv .2)
+          _ _ _ (extent t (s13))
+          (s8 .give-slots .ensures .board) (c .before .before .solve-block .ensures .1) (omega (arith, l))
           ∙ s .inv .6 f h,
     )
 
 cut-set-give-slots-requires-2 : (t : ℕ) → cut-set-lts.Need-give-slots-requires-2 (cut-set-calls t) (cut-set-at t) cut-set.Post cut-set-Inv-loop cut-set-μ-loop
-cut-set-give-slots-requires-2 t c κs = (c .before .before .before .before .loop .inv .4, omega (arith, c .before .before .before .before .before .before .pre .1 .room))
+cut-set-give-slots-requires-2 t c κs =
+    let s4 = c .before .before .before .before in
+    let s6 = s4 .before .before in
+    (s4 .loop .inv .4, omega (arith, s6 .pre .1 .room))
 
 cut-set-same-length : (t : ℕ) → cut-set-lts.Need-same-length (cut-set-calls t) (cut-set-at t) cut-set.Post cut-set-Inv-loop cut-set-μ-loop
 cut-set-same-length t c = c .before .before .before .before .before .loop .inv .1
@@ -246,7 +275,9 @@ cut-set-returns t c = let a = c .before .before .before .before .before .before 
     )
 
 solve-block-set-aside-requires : (t : ℕ) → solve-block-lts.Need-set-aside-requires (solve-block-calls t) (solve-block-at t) solve-block.Post
-solve-block-set-aside-requires t c κs = (c .before .before .before .pre .1 .links, (c .before .before .before .pre .1 .listed .known, c .before .before .before .pre .1 .marks-sized))
+solve-block-set-aside-requires t c κs =
+    let s3 = c .before .before .before in
+    (s3 .pre .1 .links, (s3 .pre .1 .listed .known, s3 .pre .1 .marks-sized))
 
 solve-block-same-length : (t : ℕ) → solve-block-lts.Need-same-length (solve-block-calls t) (solve-block-at t) solve-block.Post
 solve-block-same-length t c = refl
@@ -271,39 +302,53 @@ solve-block-slice-relend-prefix-cut-set :
 solve-block-slice-relend-prefix-cut-set t c = c .before .before .without .ensures .within
 
 solve-block-slice-aggregate-cut-set : (t : ℕ) → solve-block-lts.Need-slice-aggregate-cut-set (solve-block-calls t) (solve-block-at t) solve-block.Post
-solve-block-slice-aggregate-cut-set t c = sym (length-take-le _ (c .before .before .before .without .last .0) (c .before .before .before .without .ensures .within))
+solve-block-slice-aggregate-cut-set t c =
+    let s3 = c .before .before .before in
+    sym (length-take-le _ (s3 .without .last .0) (s3 .without .ensures .within))
 
 solve-block-cut-set-requires : (t : ℕ) → solve-block-lts.Need-cut-set-requires (solve-block-calls t) (solve-block-at t) solve-block.Post
-solve-block-cut-set-requires t c κs = let a = c .before .before .before .before .before .before .before .before .before .before .before .before .before .before .args in
-    let p = c .before .before .before .before .before .before .before .before .before .before .before .before .before .before .pre .1 in
-    let w = c .before .before .before .before .before .before .before .without .ensures in
-    let x = c .before .before .before .before .before .before .before .before .before .before .set-aside .result in
-    let l : length (take (c .before .before .before .before .before .before .before .without .result) (c .before .before .before .before .before .before .before .without .last .0)) < length (a .ids .now) =
+solve-block-cut-set-requires t c κs =
+    let s7 = c .before .before .before .before .before .before .before in
+    let s9 = s7 .before .before in
+    let s10 = s9 .before in
+    let s14 = s10 .before .before .before .before in
+    let a = s14 .args in
+    let p = s14 .pre .1 in
+    let w = s7 .without .ensures in
+    let x = s10 .set-aside .result in
+    let l : length (take (s7 .without .result) (s7 .without .last .0)) < length (a .ids .now) =
     rw (w .rest) (fewer (a .m) _ _ (a .ready .now) (a .durations .now) _ (a .ids .now) 0 0 0 x
-    (c .before .before .before .before .before .before .before .before .before .before .set-aside .ensures .0) (c .before .before .before .before .before .before .before .before .before .if1 .left)) in (
-      omega (arith, l, c .before .before .before .before .before .before .before .before .before .before .before .before .before .before .pre .0),
+    (s10 .set-aside .ensures .0) (s9 .if1 .left)) in (
+      omega (arith, l, s14 .pre .0),
       record {
         links = p .links;
         listed = rw (w .rest) (listed-keep _ (a .ids .now) _ (p .listed));
-        marks-sized = c .before .before .before .before .before .before .before .before .before .before .set-aside .ensures .1;
+        marks-sized = s10 .set-aside .ensures .1;
         tables = p .tables;
         room = omega (arith, l, p .room, share-most x);
       },
     )
 
 solve-block-same-length-2 : (t : ℕ) → solve-block-lts.Need-same-length-2 (solve-block-calls t) (solve-block-at t) solve-block.Post
-solve-block-same-length-2 t c = length-front (c .before .before .before .before .before .before .before .before .before .before .without .last .0) (c .before .before .cut-set .last .1 .1 .1 .1 .1 .1 .0) (c .before .before .before .before .before .before .before .before .before .before .without .result)
+solve-block-same-length-2 t c =
+    let s10 = c .before .before .before .before .before .before .before .before .before .before in
+    length-front (s10 .without .last .0) (c .before .before .cut-set .last .1 .1 .1 .1 .1 .1 .0) (s10 .without .result)
     (c .before .before .cut-set .kept .1 .1 .1 .1 .1 .1 .0)
-    ∙ c .before .before .before .before .before .before .before .before .before .before .without .kept .0
+    ∙ s10 .without .kept .0
 
 solve-block-returns-2 : (t : ℕ) → solve-block-lts.Need-returns-2 (solve-block-calls t) (solve-block-at t) solve-block.Post
-solve-block-returns-2 t c = let a = c .before .before .before .before .before .before .before .before .before .before .before .before .before .before .before .before .before .args in
-    let w = c .before .before .before .before .before .before .before .before .before .before .without .ensures in
-    let x = c .before .before .before .before .before .before .before .before .before .before .before .before .before .set-aside .result in
+solve-block-returns-2 t c =
+    let s10 = c .before .before .before .before .before .before .before .before .before .before in
+    let s12 = s10 .before .before in
+    let s13 = s12 .before in
+    let s17 = s13 .before .before .before .before in
+    let a = s17 .args in
+    let w = s10 .without .ensures in
+    let x = s13 .set-aside .result in
     let g = c .before .before .cut-set .ensures in
-    let l : length (take (c .before .before .before .before .before .before .before .before .before .before .without .result) (c .before .before .before .before .before .before .before .before .before .before .without .last .0)) < length (a .ids .now) =
+    let l : length (take (s10 .without .result) (s10 .without .last .0)) < length (a .ids .now) =
     rw (w .rest) (fewer (a .m) _ _ (a .ready .now) (a .durations .now) _ (a .ids .now) 0 0 0 x
-    (c .before .before .before .before .before .before .before .before .before .before .before .before .before .set-aside .ensures .0) (c .before .before .before .before .before .before .before .before .before .before .before .before .if1 .left)) in (
+    (s13 .set-aside .ensures .0) (s12 .if1 .left)) in (
       record {
         marks-sized = g .0 .marks-sized;
         tables = g .0 .tables;
@@ -311,7 +356,7 @@ solve-block-returns-2 t c = let a = c .before .before .before .before .before .b
       },
       λ f work h e.
           solved-by-cut (a .m) _ _ (a .ready .now) (a .durations .now) _ (a .ids .now) (a .from) work f x
-          (c .before .before .before .before .before .before .before .before .before .before .before .before .before .set-aside .ensures .0) _ (a .end) _ _ (c .before .before .before .before .before .before .before .before .before .before .before .before .if1 .left) (w .rest) h e (g .1),
+          (s13 .set-aside .ensures .0) _ (a .end) _ _ (s12 .if1 .left) (w .rest) h e (g .1),
     )
 
 pub +cut-set+solve-block-spec : {M : Type 1} → statement M
