@@ -1,6 +1,6 @@
 -- The table of the desks that work: a desk that nobody asked for yet joins it, and there is room for it; a desk that is
--- in it stays where it is when another piece takes it.
-use Prim.Native.Nat.{ℕ, suc, _+_, _<_}
+-- in it stays where it is when another choice is made there. It is noted behind the last one either way.
+use Prim.Native.Nat.{ℕ, suc, _+_, _≤_, _<_}
 use mathlib.Core.List.{List}
 use mathlib.Core.Path.{_≡_, refl, sym, ap, _∙_}
 use native.Mathlib.Omega.{arith}
@@ -10,71 +10,74 @@ use lib.ListN.{length, getD, set, length-set}
 use lib.Seq.{getD-set-same, getD-set-other}
 use Rattle.laws.proofs.Words.{by-test}
 use Rattle.links.specs.Links.{counted}
-use Rattle.links.proofs.Counting.{counted-same, counted-one, counted-most, counted-none}
+use Rattle.links.proofs.Counting.{counted-same, counted-one, counted-none}
 use Rattle.steps.specs.Choice.{Busy}
+use Rattle.steps.specs.Opening.{Among}
+use Rattle.steps.proofs.Decision.{busy-few}
 
 -- Nobody asked for a desk yet.
-pub busy-none : (chosen busy : List ℕ) → length chosen ≡ 32 → length busy ≡ 32
-    → ((d : ℕ) → d < 32 → getD chosen d 0 ≡ 256) → Busy 0 chosen busy
-busy-none chosen busy a b h = record {
+pub busy-none : (nobody : ℕ) (chosen busy : List ℕ) → length chosen ≡ 32 → length busy ≡ 33
+    → ((d : ℕ) → d < 32 → getD chosen d 0 ≡ nobody) → Busy nobody 0 chosen busy
+busy-none nobody chosen busy a b h = record {
   chosen-sized = a;
   busy-sized = b;
-  as-many = counted-none (λ d. ltb (getD chosen d 0) 256) 32
-      (λ d l. le-ltb (getD chosen d 0) 256 (omega (arith, h d l)));
+  as-many = counted-none (λ d. ltb (getD chosen d 0) nobody) 32
+      (λ d l. le-ltb (getD chosen d 0) nobody (omega (arith, h d l)));
   desk-most = λ k l. absurd (omega arith);
   someone = λ k l. absurd (omega arith);
   once = λ p q l. absurd (omega arith);
   everyone = λ d l w. absurd (omega (arith, h d l));
 }
 
--- Piece i takes desk d.
-module _ (count : ℕ) (chosen busy : List ℕ) (b : Busy count chosen busy) (d i : ℕ) (on : d < 32) (small : i < 256) where
+-- Desk d chooses i.
+module _ (nobody count : ℕ) (chosen busy : List ℕ) (b : Busy nobody count chosen busy) (d i : ℕ) (on : d < 32)
+    (small : i < nobody) where
   pub at-desk : getD (set chosen d i) d 0 ≡ i
   at-desk = getD-set-same chosen d i 0 (omega (arith, b .chosen-sized))
 
   pub at-other : (e : ℕ) → (e ≡ d → ⊥) → getD (set chosen d i) e 0 ≡ getD chosen e 0
   at-other e ne = getD-set-other chosen d e i 0 ne
 
-  somebody : (e : ℕ) → getD chosen e 0 < 256 → getD (set chosen d i) e 0 < 256
+  somebody : (e : ℕ) → getD chosen e 0 < nobody → getD (set chosen d i) e 0 < nobody
   somebody e h = by-test (eqb e d)
       (λ z. rw (eqb-true e d z, at-desk) small)
       (λ z. rw (at-other e (eqb-false e d z)) h)
 
-  -- One that somebody asked for before.
-  pub busy-again : getD chosen d 0 < 256 → Busy count (set chosen d i) busy
+  earlier : (k : ℕ) → k < count → getD (set busy count d) k 0 ≡ getD busy k 0
+  earlier k h = getD-set-other busy count k d 0 (λ (z : k ≡ count). omega arith)
+
+  -- Somebody asked for it before.
+  pub busy-again : getD chosen d 0 < nobody → Busy nobody count (set chosen d i) (set busy count d)
   busy-again h = record {
     chosen-sized = length-set chosen d i ∙ b .chosen-sized;
-    busy-sized = b .busy-sized;
-    as-many = counted-same (λ e. ltb (getD (set chosen d i) e 0) 256) (λ e. ltb (getD chosen e 0) 256) 32
+    busy-sized = length-set busy count d ∙ b .busy-sized;
+    as-many = counted-same (λ e. ltb (getD (set chosen d i) e 0) nobody) (λ e. ltb (getD chosen e 0) nobody) 32
         (λ e l. by-test (eqb e d)
-        (λ z. rw (eqb-true e d z, at-desk) (lt-ltb i 256 small ∙ sym (lt-ltb (getD chosen d 0) 256 h)))
+        (λ z. rw (eqb-true e d z, at-desk) (lt-ltb i nobody small ∙ sym (lt-ltb (getD chosen d 0) nobody h)))
         (λ z. rw (at-other e (eqb-false e d z))))
         ∙ b .as-many;
-    desk-most = b .desk-most;
-    someone = λ k l. somebody (getD busy k 0) (b .someone k l);
-    once = b .once;
-    everyone = λ e l w. by-test (eqb e d)
+    desk-most = λ k l. rw (earlier k l) (b .desk-most k l);
+    someone = λ k l. rw (earlier k l) (somebody (getD busy k 0) (b .someone k l));
+    once = λ p q l m. rw (earlier p l, earlier q m) (b .once p q l m);
+    everyone = λ e l w. there (by-test (eqb e d)
         (λ z. rw (eqb-true e d z) (b .everyone d on h))
-        (λ z. b .everyone e l (rw (at-other e (eqb-false e d z)) at w));
+        (λ z. b .everyone e l (rw (at-other e (eqb-false e d z)) at w)));
   }
+    where
+      there : {e : ℕ} → Among busy count e → Among (set busy count d) count e
+      there m = (m .0, m .1, earlier (m .0) (m .1) ∙ m .2)
 
-  -- One that nobody asked for.
-  module _ (nobody : 255 < getD chosen d 0) where
-    one-more : counted (λ e. ltb (getD (set chosen d i) e 0) 256) 32 ≡ suc count
+  -- Nobody asked for it.
+  module _ (free : nobody ≤ getD chosen d 0) where
+    one-more : counted (λ e. ltb (getD (set chosen d i) e 0) nobody) 32 ≡ suc count
     one-more =
-        counted-one (λ e. ltb (getD chosen e 0) 256) (λ e. ltb (getD (set chosen d i) e 0) 256) 32 d on
-        (λ e l ne. ap (λ x. ltb x 256) (sym (at-other e ne)))
-        (le-ltb (getD chosen d 0) 256 (omega arith)) (rw at-desk (lt-ltb i 256 small))
+        counted-one (λ e. ltb (getD chosen e 0) nobody) (λ e. ltb (getD (set chosen d i) e 0) nobody) 32 d on
+        (λ e l ne. ap (λ x. ltb x nobody) (sym (at-other e ne)))
+        (le-ltb (getD chosen d 0) nobody free) (rw at-desk (lt-ltb i nobody small))
         ∙ ap suc (b .as-many)
 
-    pub busy-room : count < 32
-    busy-room = omega (arith, one-more, counted-most (λ e. ltb (getD (set chosen d i) e 0) 256) 32)
-
     last : getD (set busy count d) count 0 ≡ d
-    last = getD-set-same busy count d 0 (omega (arith, b .busy-sized, busy-room))
-
-    earlier : (k : ℕ) → k < count → getD (set busy count d) k 0 ≡ getD busy k 0
-    earlier k h = getD-set-other busy count k d 0 (λ (z : k ≡ count). omega arith)
+    last = getD-set-same busy count d 0 (omega (arith, b .busy-sized, busy-few nobody count chosen busy b))
 
     -- It was in no place so far.
     new : (k : ℕ) → k < count → getD busy k 0 ≡ d → ⊥
@@ -85,7 +88,7 @@ module _ (count : ℕ) (chosen busy : List ℕ) (b : Busy count chosen busy) (d 
         (λ e. f k (ltb-true k count e))
         (λ e. let z : k ≡ count = omega (arith, ltb-false k count e) in rw z g)
 
-    pub busy-more : Busy (count + 1) (set chosen d i) (set busy count d)
+    pub busy-more : Busy nobody (count + 1) (set chosen d i) (set busy count d)
     busy-more = record {
       chosen-sized = length-set chosen d i ∙ b .chosen-sized;
       busy-sized = length-set busy count d ∙ b .busy-sized;

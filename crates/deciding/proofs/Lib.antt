@@ -2,4 +2,5 @@
 pub mod Places
 pub mod Desks
 pub mod Looking
+pub mod Naming
 pub mod Ends

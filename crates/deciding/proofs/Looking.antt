@@ -1,6 +1,5 @@
--- One open piece more looked at: it is to be ready later, or it is put up for its desk.
-use Prim.Native.Nat.{ℕ, _≤_, _<_, min}
-use mathlib.Core.Bool.{true, false}
+-- One open piece more looked at: it is to be ready later, or its key is put up for its desk.
+use Prim.Native.Nat.{ℕ, _+_, _≤_, _<_, min}
 use mathlib.Core.List.{List}
 use mathlib.Core.Logic.{_⊎_, inl, inr}
 use mathlib.Core.Path.{_≡_, refl, sym, _∙_}
@@ -8,18 +7,21 @@ use native.Mathlib.Omega.{arith}
 use borrow.Author.Tests.{eqb-true, eqb-false, ltb-true, ltb-false}
 use lib.Dec.{ltb, eqb}
 use lib.ListN.{length, getD, set}
+use Rattle.rules.specs.Words.{when}
 use Rattle.laws.proofs.Words.{by-test, when-true, when-false}
-use Rattle.steps.specs.Choice.{View, goesFirst, never, Asks, Best, Choice, Later, Picks, picks, offered, LookedAt}
+use Rattle.steps.specs.Choice.{View, never, Asks, Best, Later, Busy}
+use Rattle.steps.specs.Keys.{noKey}
 use Rattle.steps.specs.Opening.{Among}
+use Rattle.deciding.specs.Look.{Least, Looked, Picks, picks, offered}
 use Rattle.deciding.proofs.Desks.{at-desk, at-other, busy-none, busy-again, busy-more}
 
 -- None looked at.
-pub looked-none : (v : View) (table chosen busy : List ℕ) → length chosen ≡ 32 → length busy ≡ 32
-    → ((d : ℕ) → d < 32 → getD chosen d 0 ≡ 256) → LookedAt v (Among table 0) 0 chosen busy never
-unfolding Choice
-looked-none v table chosen busy a b h = record {
-  choices = λ d l. inl (h d l, λ j m. absurd (omega (arith, m .1)));
-  working = busy-none chosen busy a b h;
+pub looked-none : (v : View) (table best busy : List ℕ) → length best ≡ 32 → length busy ≡ 33
+    → ((d : ℕ) → d < 32 → getD best d 0 ≡ noKey) → Looked v (Among table 0) 0 best busy never
+unfolding Least
+looked-none v table best busy a b h = record {
+  least = λ d l. inl (h d l, λ j m. absurd (omega (arith, m .1)));
+  working = busy-none noKey best busy a b h;
   later = record {
     most = omega arith;
     above = λ l. l;
@@ -31,14 +33,18 @@ looked-none v table chosen busy a b h = record {
 -- The pieces of T are those of S, and piece i.
 module _ (v : View) (S T : ℕ → Type 0) (up : (j : ℕ) → S j → T j) where
   -- Piece i does not ask for desk d.
-  passed-over : (d x : ℕ) → ((j : ℕ) → T j → Asks v T d j → S j) → Choice v S d x → Choice v T d x
-  unfolding Choice
-  passed-over d x down (inl w) = inl (w .0, λ j m a. w .1 j (down j m a) a)
-  passed-over d x down (inr b) = inr (record {
-    inside = up x (b .inside);
-    asks = b .asks;
-    first = λ j m a. b .first j (down j m a) a;
-  })
+  passed-over : (d k : ℕ) → ((j : ℕ) → T j → Asks v T d j → S j) → Least v S d k → Least v T d k
+  unfolding Least
+  passed-over d k down (inl w) = inl (w .0, λ j m a. w .1 j (down j m a) a)
+  passed-over d k down (inr (x, e, b)) = inr (
+    x,
+    e,
+    record {
+      inside = up x (b .inside);
+      asks = b .asks;
+      first = λ j m a. b .first j (down j m a) a;
+    },
+  )
 
   module _ (i : ℕ) (own : T i) (split : (j : ℕ) → T j → S j ⊎ (j ≡ i)) where
     -- All but i are of S.
@@ -50,11 +56,11 @@ module _ (v : View) (S T : ℕ → Type 0) (up : (j : ℕ) → S j → T j) wher
         go (inr e) = rw e g
 
     -- It is to be ready later.
-    pub looked-later : (count : ℕ) (chosen busy : List ℕ) (next r : ℕ) → v .moment < getD (v .ready) i 0
-        → r ≡ min next (getD (v .ready) i 0) → LookedAt v S count chosen busy next → LookedAt v T count chosen busy r
-    looked-later count chosen busy next r late e l = record {
-      choices = λ d h. passed-over d (getD chosen d 0)
-          (λ j m. older (λ j. Asks v T d j → S j) j m (λ s a. s) (λ a. absurd (omega (arith, a .1)))) (l .choices d h);
+    pub looked-later : (count : ℕ) (best busy : List ℕ) (next r : ℕ) → v .moment < getD (v .ready) i 0
+        → r ≡ min next (getD (v .ready) i 0) → Looked v S count best busy next → Looked v T count best busy r
+    looked-later count best busy next r late e l = record {
+      least = λ d h. passed-over d (getD best d 0)
+          (λ j m. older (λ j. Asks v T d j → S j) j m (λ s a. s) (λ a. absurd (omega (arith, a .1)))) (l .least d h);
       working = l .working;
       later = record {
         most = omega (arith, l .later .most);
@@ -65,80 +71,84 @@ module _ (v : View) (S T : ℕ → Type 0) (up : (j : ℕ) → S j → T j) wher
       };
     }
 
-    -- It is ready, and put up for its desk.
-    module _ (d : ℕ) (on : d < 32) (small : i < 256) (few : (j : ℕ) → S j → j < 256) (is : getD (v .desks) i 0 ≡ d)
-        (now : getD (v .ready) i 0 ≤ v .moment) (count : ℕ) (chosen busy : List ℕ) (next : ℕ)
-        (l : LookedAt v S count chosen busy next) where
+    -- It is ready, and its key is put up for its desk.
+    module _ (d : ℕ) (on : d < 32) (is : getD (v .desks) i 0 ≡ d) (now : getD (v .ready) i 0 ≤ v .moment)
+        (keyed : (j : ℕ) → T j → getD (v .keys) j 0 < noKey) where
+      abbrev key : ℕ
+      key = getD (v .keys) i 0
+
       -- Who asks for another desk is not i.
-      other-desk : (e : ℕ) → (e ≡ d → ⊥) → (x : ℕ) → Choice v S e x → Choice v T e x
-      other-desk e ne x c =
-          passed-over e x (λ j m. older (λ j. Asks v T e j → S j) j m (λ s a. s) (λ a. absurd (ne (sym (a .0) ∙ is)))) c
+      other-desk : (e : ℕ) → (e ≡ d → ⊥) → (k : ℕ) → Least v S e k → Least v T e k
+      other-desk e ne k c =
+          passed-over e k (λ j m. older (λ j. Asks v T e j → S j) j m (λ s a. s) (λ a. absurd (ne (sym (a .0) ∙ is)))) c
 
-      later-too : Later v T next
-      later-too = record {
-        most = l .later .most;
-        above = l .later .above;
-        counts = λ j m. older (λ j. v .moment < getD (v .ready) j 0 → next ≤ getD (v .ready) j 0) j m
-            (λ s. l .later .counts j s) (λ h. absurd (omega arith));
-        from = inr (i, own);
-      }
-
-      -- It takes the desk: nobody asked for it yet, or i goes before who did.
-      taken : (x : ℕ) → Choice v S d x → (x < 256 → goesFirst (v .keys) i x ≡ true) → Best v T d i
-      unfolding Choice goesFirst
-      taken x (inl w) g = record {
+      -- It goes first of all that ask for the desk, where those before it do not.
+      goes-first : ((j : ℕ) → S j → Asks v T d j → key ≤ getD (v .keys) j 0) → Best v T d i
+      goes-first f = record {
         inside = own;
         asks = (is, now);
-        first = λ j m. older (λ j. Asks v T d j → getD (v .keys) i 0 ≤ getD (v .keys) j 0) j m
-            (λ s a. absurd (w .1 j s a)) (λ a. omega arith);
-      }
-      taken x (inr b) g = record {
-        inside = own;
-        asks = (is, now);
-        first = λ j m. older (λ j. Asks v T d j → getD (v .keys) i 0 ≤ getD (v .keys) j 0) j m
-            (λ s a. omega (arith, ltb-true (getD (v .keys) i 0) (getD (v .keys) x 0) (g (few x (b .inside))), b .first j s a))
-            (λ a. omega arith);
+        first = λ j m. older (λ j. Asks v T d j → key ≤ getD (v .keys) j 0) j m (f j) (λ a. omega arith);
       }
 
-      -- Who asked before stays: i does not go before it.
-      stays : (x : ℕ) → Choice v S d x → x < 256 → goesFirst (v .keys) i x ≡ false → Choice v T d x
-      unfolding Choice goesFirst
-      stays x (inl w) h g = absurd (omega (arith, w .0))
-      stays x (inr b) h g = inr (record {
-        inside = up x (b .inside);
-        asks = b .asks;
-        first = λ j m. older (λ j. Asks v T d j → getD (v .keys) x 0 ≤ getD (v .keys) j 0) j m
-            (λ s a. b .first j s a)
-            (λ a. ltb-false (getD (v .keys) i 0) (getD (v .keys) x 0) g);
-      })
+      -- The lesser key stays.
+      lesser-stays : (k : ℕ) → Least v S d k → Least v T d (min k key)
+      unfolding Least
+      lesser-stays k (inl w) =
+          let e : min k key ≡ key = omega (arith, w .0, keyed i own) in
+          inr (i, e, goes-first (λ j s a. absurd (w .1 j s a)))
+      lesser-stays k (inr (x, e, b)) = by-test (ltb key k)
+          (λ q. let z : min k key ≡ key = omega (arith, ltb-true key k q) in
+          inr (i, z, goes-first (λ j s a. omega (arith, ltb-true key k q, e, b .first j s a))))
+          (λ q. let z : min k key ≡ k = omega (arith, ltb-false key k q) in inr (
+            x,
+            z ∙ e,
+            record {
+              inside = up x (b .inside);
+              asks = b .asks;
+              first = λ j m. older (λ j. Asks v T d j → getD (v .keys) x 0 ≤ getD (v .keys) j 0) j m
+                  (λ s a. b .first j s a) (λ a. omega (arith, ltb-false key k q, e));
+            },
+          ))
 
-      -- The choices once it has the desk.
-      choices-taken : Best v T d i → (e : ℕ) → e < 32 → Choice v T e (getD (set chosen d i) e 0)
-      unfolding Choice
-      choices-taken t e h = by-test (eqb e d)
-          (λ z. rw (eqb-true e d z, at-desk count chosen busy (l .working) d i on small) (inr t))
-          (λ z. let ne = eqb-false e d z in
-          rw (at-other count chosen busy (l .working) d i on small e ne) (other-desk e ne _ (l .choices e h)))
+      -- A least key is nobody's or below.
+      some-key : (k : ℕ) → Least v S d k → (k ≡ noKey → ⊥) → k < noKey
+      unfolding Least
+      some-key k (inl w) ne = absurd (ne (w .0))
+      some-key k (inr (x, e, b)) ne = omega (arith, e, keyed x (up x (b .inside)))
 
-      pub looked-offered : (p : Picks) → p ≡ offered (v .keys) i d (picks count chosen busy)
-          → LookedAt v T (p .count) (p .chosen) (p .busy) next
-      unfolding offered
-      looked-offered p q = by-test (ltb (getD chosen d 0) 256)
-          (λ e. let h = ltb-true (getD chosen d 0) 256 e in by-test (goesFirst (v .keys) i (getD chosen d 0))
-          (λ g. rw (q ∙ when-true _ _ _ e ∙ when-true _ _ _ g) (record {
-            choices = choices-taken (taken (getD chosen d 0) (l .choices d on) (λ y. g));
-            working = busy-again count chosen busy (l .working) d i on small h;
-            later = later-too;
-          }))
-          (λ g. rw (q ∙ when-true _ _ _ e ∙ when-false _ _ _ g) (record {
-            choices = λ f k. by-test (eqb f d)
-                (λ z. rw (eqb-true f d z) (stays (getD chosen d 0) (l .choices d on) h g))
-                (λ z. other-desk f (eqb-false f d z) (getD chosen f 0) (l .choices f k));
-            working = l .working;
-            later = later-too;
-          })))
-          (λ e. let h = ltb-false (getD chosen d 0) 256 e in rw (q ∙ when-false _ _ _ e) (record {
-            choices = choices-taken (taken (getD chosen d 0) (l .choices d on) (λ y. absurd (omega arith)));
-            working = busy-more count chosen busy (l .working) d i on small (omega arith);
-            later = later-too;
-          }))
+      module _ (count : ℕ) (best busy : List ℕ) (next : ℕ) (l : Looked v S count best busy next) where
+        abbrev lesser : ℕ
+        lesser = min (getD best d 0) key
+
+        small : lesser < noKey
+        small = omega (arith, keyed i own)
+
+        still-working : (r : ℕ) → r ≡ when (eqb (getD best d 0) noKey) (count + 1) count
+            → Busy noKey r (set best d lesser) (set busy count d)
+        unfolding when
+        still-working r q = by-test (eqb (getD best d 0) noKey)
+            (λ e. rw (q ∙ when-true _ _ _ e)
+            (busy-more noKey count best busy (l .working) d lesser on small (omega (arith, eqb-true (getD best d 0) noKey e))))
+            (λ e. rw (q ∙ when-false _ _ _ e)
+            (busy-again noKey count best busy (l .working) d lesser on small
+            (some-key (getD best d 0) (l .least d on) (eqb-false (getD best d 0) noKey e))))
+
+        pub looked-offered : (p : Picks) → p ≡ offered key d (picks count best busy)
+            → Looked v T (p .count) (p .best) (p .busy) next
+        unfolding offered
+        looked-offered p q = rw q (record {
+          least = λ e h. by-test (eqb e d)
+              (λ z. rw (eqb-true e d z, at-desk noKey count best busy (l .working) d lesser on small)
+              (lesser-stays (getD best d 0) (l .least d on)))
+              (λ z. let ne = eqb-false e d z in
+              rw (at-other noKey count best busy (l .working) d lesser on small e ne)
+              (other-desk e ne (getD best e 0) (l .least e h)));
+          working = still-working _ refl;
+          later = record {
+            most = l .later .most;
+            above = l .later .above;
+            counts = λ j m. older (λ j. v .moment < getD (v .ready) j 0 → next ≤ getD (v .ready) j 0) j m
+                (λ s. l .later .counts j s) (λ h. absurd (omega arith));
+            from = inr (i, own);
+          };
+        })

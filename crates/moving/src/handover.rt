@@ -73,7 +73,7 @@ pub fn hand_all(
     last: &[u16; 256],
     prior: &[u16; 1024],
     chosen: &[u16; 32],
-    busy: &[u16; 32],
+    busy: &[u16; 33],
     left: &[u32; 256],
     waits: &mut [u16; 256],
     ready: &mut [u32; 256],
@@ -82,7 +82,7 @@ pub fn hand_all(
 ) -> usize
     requires { ⌜ Named m (now befores) (now afters) ⌝ }
     requires { ⌜ Chained (now befores) m (now last) (now prior) ⌝ }
-    requires { ⌜ (c < 4000000000) × Busy count (now chosen) (now busy)
+    requires { ⌜ (c < 4000000000) × Busy 256 count (now chosen) (now busy)
         × Working count (now chosen) (now busy) opened (now table) ⌝ }
     requires { ⌜ Room m (now afters) opened (now table) (now place) (now waits) ⌝ }
     ensures { λ _. ⌜ waiting (now (waits .exit)) (now (ready .exit))

@@ -57,13 +57,13 @@ pub fn note_all(
     runs: usize,
     count: usize,
     chosen: &[u16; 32],
-    busy: &[u16; 32],
+    busy: &[u16; 33],
     last: &mut [usize; 32],
     piece: &mut [u16; 512],
     from: &mut [u32; 512],
     until: &mut [u32; 512],
 ) -> usize
-    requires { ⌜ Busy count (now chosen) (now busy) ⌝ }
+    requires { ⌜ Busy 256 count (now chosen) (now busy) ⌝ }
     ensures { λ r. ⌜ log r (now (last .exit)) (now (piece .exit)) (now (from .exit)) (now (until .exit))
         ≡ noteTo t next (now (chosen .entry)) (now (busy .entry)) count
         (log runs (now (last .entry)) (now (piece .entry)) (now (from .entry)) (now (until .entry))) ⌝ }

@@ -44,12 +44,12 @@ pub fn work_all(
     count: usize,
     durations: &[u16; 256],
     chosen: &[u16; 32],
-    busy: &[u16; 32],
+    busy: &[u16; 33],
     left: &mut [u32; 256],
     start: &mut [u32; 256],
     finish: &mut [u32; 256],
 )
-    requires { ⌜ Busy count (now chosen) (now busy) ⌝ }
+    requires { ⌜ Busy 256 count (now chosen) (now busy) ⌝ }
     ensures { λ _. ⌜ work (now (left .exit)) (now (start .exit)) (now (finish .exit))
         ≡ workTo (now (durations .entry)) t next (now (chosen .entry)) (now (busy .entry)) count
         (work (now (left .entry)) (now (start .entry)) (now (finish .entry))) ⌝ }

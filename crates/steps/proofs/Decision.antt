@@ -26,8 +26,9 @@ use Rattle.steps.proofs.Moved.{Desks, not-moved, moved}
 use Rattle.steps.proofs.Precedence.{key-sooner}
 
 -- No more desks work than there are.
-pub busy-few : (count : ℕ) (chosen busy : List ℕ) → Busy count chosen busy → count ≤ 32
-busy-few count chosen busy b = omega (arith, b .as-many, counted-most (λ d. ltb (getD chosen d 0) 256) 32)
+pub busy-few : (nobody count : ℕ) (chosen busy : List ℕ) → Busy nobody count chosen busy → count ≤ 32
+busy-few nobody count chosen busy b =
+    omega (arith, b .as-many, counted-most (λ d. ltb (getD chosen d 0) nobody) 32)
 
 -- The view shows the job's n pieces as they are at its moment, and S are the unfinished ones that wait for none.
 pub record Shown (J : Job) (n : ℕ) (v : View) (S : ℕ → Type 0) : Type 0 where
@@ -84,7 +85,7 @@ module _ (J : Job) (n : ℕ) (v : View) (S : ℕ → Type 0) (s : Shown J n v S)
 
   -- The table of the desks that work has those that do, and the other desks rest.
   module _ (count : ℕ) (chosen busy : List ℕ) (c : (d : ℕ) → d < 32 → Choice v S d (getD chosen d 0))
-      (b : Busy count chosen busy) where
+      (b : Busy 256 count chosen busy) where
     someone-works : (d : ℕ) → d < 32 → getD chosen d 0 < 256 → worked J d (v .moment) ≡ some (getD chosen d 0)
     unfolding codeOf
     someone-works d h l = by-choice (worked J d (v .moment))

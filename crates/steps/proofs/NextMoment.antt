@@ -21,7 +21,7 @@ use Rattle.slots.specs.Standing.{waitsOf, readyOf}
 use Rattle.slots.specs.Stretch.{at, Stretch}
 use Rattle.slots.proofs.Ended.{Ended}
 use Rattle.slots.proofs.Stretch.{unfinished-through}
-use Rattle.steps.specs.Choice.{View, Decided, endNext, never}
+use Rattle.steps.specs.Choice.{View, Decided, whom, endNext, never}
 use Rattle.steps.proofs.Decision.{Shown, desks-are}
 use Rattle.steps.proofs.Earliest.{end-most, end-counts, end-above, end-from}
 use Rattle.steps.proofs.Moved.{Desks, movedBy, found-moved}
@@ -31,21 +31,21 @@ module _ (J : Job) (n : ℕ) (v : View) (S : ℕ → Type 0) (s : Shown J n v S)
   pub desks : Desks J (v .moment) count chosen busy
   desks = desks-are J n v S s count chosen busy (decided .looked-at .choices) (decided .looked-at .working)
 
-  abbrev whom : ℕ → ℕ
-  whom k = getD chosen (getD busy k 0) 0
+  abbrev works-on : ℕ → ℕ
+  works-on = whom chosen busy
 
   -- Who is worked on is an unfinished piece.
-  whom-waits : (k : ℕ) → k < count → (whom k < n) × (0 < getD (v .left) (whom k) 0)
+  whom-waits : (k : ℕ) → k < count → (works-on k < n) × (0 < getD (v .left) (works-on k) 0)
   whom-waits k h =
-      let w = worked-chosen J (getD busy k 0) (v .moment) (whom k) (desks .works k h) .waits in
-      let b : whom k < n = rw (s .count) at (w .inside) in
-      (b, rw (s .left-is (whom k) b) (w .unfinished))
+      let w = worked-chosen J (getD busy k 0) (v .moment) (works-on k) (desks .works k h) .waits in
+      let b : works-on k < n = rw (s .count) at (w .inside) in
+      (b, rw (s .left-is (works-on k) b) (w .unfinished))
 
   -- The next moment lies ahead.
   pub next-ahead : v .moment < never → v .moment < next
   next-ahead h =
       rw (decided .next-is)
-      (end-above (v .moment) (v .left) chosen busy count (decided .soon) (decided .looked-at .later .above h)
+      (end-above (v .moment) (v .left) works-on count (decided .soon) (decided .looked-at .later .above h)
       (λ k l. whom-waits k l .1))
 
   pub next-most : next ≤ never
@@ -53,7 +53,7 @@ module _ (J : Job) (n : ℕ) (v : View) (S : ℕ → Type 0) (s : Shown J n v S)
       omega (
         arith,
         decided .next-is,
-        end-most (v .moment) (v .left) chosen busy count (decided .soon),
+        end-most (v .moment) (v .left) works-on count (decided .soon),
         decided .looked-at .later .most,
       )
 
@@ -68,13 +68,13 @@ module _ (J : Job) (n : ℕ) (v : View) (S : ℕ → Type 0) (s : Shown J n v S)
     where
       go : (k : ℕ) × (k < count) × (getD busy k 0 ≡ desk J i) → next ≤ v .moment + at J (v .moment) i .left
       go w =
-          let c : whom (w .0) ≡ i =
+          let c : works-on (w .0) ≡ i =
           some-inj (sym (desks .works (w .0) (w .1)) ∙ ap (λ d. worked J d (v .moment)) (w .2) ∙ e) in
           omega (
             arith,
             decided .next-is,
             rw (c, s .left-is i h) at
-                (end-counts (v .moment) (v .left) chosen busy count (decided .soon) (w .0) (w .1)),
+                (end-counts (v .moment) (v .left) works-on count (decided .soon) (w .0) (w .1)),
           )
 
   next-ready : (i : ℕ) → i < n → 0 < at J (v .moment) i .left → waitsOf J (at J (v .moment)) i ≡ 0
@@ -84,7 +84,7 @@ module _ (J : Job) (n : ℕ) (v : View) (S : ℕ → Type 0) (s : Shown J n v S)
       omega (
         arith,
         decided .next-is,
-        end-most (v .moment) (v .left) chosen busy count (decided .soon),
+        end-most (v .moment) (v .left) works-on count (decided .soon),
         decided .looked-at .later .counts i (s .everyone i h l w) (omega arith),
       )
 
@@ -100,11 +100,11 @@ module _ (J : Job) (n : ℕ) (v : View) (S : ℕ → Type 0) (s : Shown J n v S)
   -- If it comes at all, a piece is unfinished.
   unfinished-one : (next ≡ never → ⊥) → (i : ℕ) × (i < n) × (0 < at J (v .moment) i .left)
   unfinished-one ne =
-      go (end-from (v .moment) (v .left) chosen busy count (decided .soon)) (decided .looked-at .later .from)
+      go (end-from (v .moment) (v .left) works-on count (decided .soon)) (decided .looked-at .later .from)
     where
-      go : (endNext (v .moment) (v .left) chosen busy count (decided .soon) ≡ decided .soon) ⊎ (0 < count)
+      go : (endNext (v .moment) (v .left) works-on count (decided .soon) ≡ decided .soon) ⊎ (0 < count)
           → (decided .soon ≡ never) ⊎ ((j : ℕ) × S j) → (i : ℕ) × (i < n) × (0 < at J (v .moment) i .left)
-      go (inr w) r = let c = whom-waits 0 w in (whom 0, c .0, rw (s .left-is _ (c .0)) at (c .1))
+      go (inr w) r = let c = whom-waits 0 w in (works-on 0, c .0, rw (s .left-is _ (c .0)) at (c .1))
       go (inl e) (inl q) = absurd (ne (decided .next-is ∙ e ∙ q))
       go (inl e) (inr w) = (w .0, s .inside (w .0) (w .1), s .unfinished (w .0) (w .1))
 

@@ -1,5 +1,5 @@
 -- Keys keep the job's order of urgency: of two different pieces the one with the smaller key goes first.
-use Prim.Native.Nat.{ℕ, _+_, _*_, _≤_, _<_}
+use Prim.Native.Nat.{ℕ, _+_, _*_, _%_, _≤_, _<_}
 use mathlib.Core.Bool.{true}
 use mathlib.Core.Path.{_≡_}
 use native.Mathlib.Omega.{arith}
@@ -12,7 +12,7 @@ use Rattle.laws.proofs.Order.{smaller-sooner}
 use Rattle.laws.proofs.Signed.{up, dn, _≼_, _≺_, below-zero, below-zero-is}
 use Rattle.slots.proofs.Seams.{lower-sooner}
 use Rattle.laws.proofs.Words.{by-test}
-use Rattle.steps.specs.Keys.{keyOf}
+use Rattle.steps.specs.Keys.{keyOf, noKey}
 
 -- A moment that is not far below zero.
 pub not-far : (z : ℤ) → below-zero 244800 ≼ z → dn z ≤ 524288
@@ -25,6 +25,17 @@ key-is : (z : ℤ) (i : ℕ) → dn z ≤ 524288 → keyOf z i + dn z * 256 ≡ 
 unfolding keyOf up dn
 key-is (pos k) i h = omega arith
 key-is (negsuc k) i h = omega arith
+
+-- Its last eight bits tell the piece, and nobody has it.
+pub key-tells : (z : ℤ) (i : ℕ) → i < 256 → keyOf z i % 256 ≡ i
+unfolding keyOf
+key-tells (pos k) i h = omega arith
+key-tells (negsuc k) i h = omega arith
+
+pub key-somebody : (z : ℤ) (i : ℕ) → i < 256 → z ≼ pos 40000 → keyOf z i < noKey
+unfolding keyOf up dn
+key-somebody (pos k) i h b = omega arith
+key-somebody (negsuc k) i h b = omega arith
 
 pub key-sooner : (J : Job) (i x : ℕ) → i < 256 → x < 256 → dn (latest J i) ≤ 524288 → dn (latest J x) ≤ 524288 → (x ≡ i → ⊥)
     → keyOf (latest J i) i ≤ keyOf (latest J x) x → sooner J i x ≡ true

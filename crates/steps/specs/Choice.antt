@@ -1,16 +1,12 @@
 -- One decision over the tables: who every desk works on from a moment on, and the next moment at which something is
 -- decided anew. 256 stands for no piece, and 4,294,967,295 for no later moment.
 use Prim.Native.Nat.{ℕ, zero, suc, _+_, _≤_, _<_, min}
-use mathlib.Core.Bool.{Bool, true, false}
 use mathlib.Core.List.{List}
 use mathlib.Core.Logic.{_⊎_}
 use mathlib.Core.Option.{Option, none, some}
 use mathlib.Core.Path.{_≡_}
 use lib.Dec.{ltb}
-use lib.IntN.{ℤ, pos}
-use lib.ListN.{length, getD, set}
-use lib.Signed.{ltZ}
-use Rattle.rules.specs.Words.{when}
+use lib.ListN.{length, getD}
 use Rattle.links.specs.Links.{counted}
 use Rattle.steps.specs.Opening.{Among}
 
@@ -26,10 +22,6 @@ pub record View : Type 0 where
 abbrev pub view : ℕ → List ℕ → List ℕ → List ℕ → List ℕ → View
 view t desks keys left ready =
     record { moment = t; desks = desks; keys = keys; left = left; ready = ready }
-
--- Piece i goes before piece x: its key is smaller.
-unfoldable pub goesFirst : List ℕ → ℕ → ℕ → Bool
-goesFirst keys i x = ltb (getD keys i 0) (getD keys x 0)
 
 abbrev pub never : ℕ
 never = 4294967295
@@ -57,49 +49,37 @@ module _ (v : View) (S : ℕ → Type 0) where
     pub counts : (j : ℕ) → S j → v .moment < getD (v .ready) j 0 → next ≤ getD (v .ready) j 0
     pub from : (next ≡ never) ⊎ ((j : ℕ) × S j)
 
--- The desks that chose a piece, each once, in the first `count` places of a table.
-pub record Busy (count : ℕ) (chosen busy : List ℕ) : Type 0 where
+-- The desks that chose, each once, in the first `count` places of a table. A number stands for nobody, and all smaller
+-- ones are choices. The table has a place more than there are desks: one is noted before it is known whether it counts.
+pub record Busy (nobody count : ℕ) (chosen busy : List ℕ) : Type 0 where
   pub chosen-sized : length chosen ≡ 32
-  pub busy-sized : length busy ≡ 32
-  pub as-many : counted (λ d. ltb (getD chosen d 0) 256) 32 ≡ count
+  pub busy-sized : length busy ≡ 33
+  pub as-many : counted (λ d. ltb (getD chosen d 0) nobody) 32 ≡ count
   pub desk-most : (k : ℕ) → k < count → getD busy k 0 < 32
-  pub someone : (k : ℕ) → k < count → getD chosen (getD busy k 0) 0 < 256
+  pub someone : (k : ℕ) → k < count → getD chosen (getD busy k 0) 0 < nobody
   pub once : (p q : ℕ) → p < count → q < count → getD busy p 0 ≡ getD busy q 0 → p ≡ q
-  pub everyone : (d : ℕ) → d < 32 → getD chosen d 0 < 256 → Among busy count d
+  pub everyone : (d : ℕ) → d < 32 → getD chosen d 0 < nobody → Among busy count d
 
--- Piece i put up for desk d: it takes the desk if nobody asked for it yet, or if it goes before who did.
-pub record Picks : Type 0 where
-  pub count : ℕ
-  pub chosen : List ℕ
-  pub busy : List ℕ
+-- The choice of the k-th of the desks that work.
+abbrev pub whom : List ℕ → List ℕ → ℕ → ℕ
+whom chosen busy k = getD chosen (getD busy k 0) 0
 
-abbrev pub picks : ℕ → List ℕ → List ℕ → Picks
-picks count chosen busy = record { count = count; chosen = chosen; busy = busy }
-
-unfoldable pub offered : List ℕ → ℕ → ℕ → Picks → Picks
-unfolding when goesFirst
-offered keys i d p =
-    when (ltb (getD (p .chosen) d 0) 256)
-    (when (goesFirst keys i (getD (p .chosen) d 0)) (picks (p .count) (set (p .chosen) d i) (p .busy)) p)
-    (picks (p .count + 1) (set (p .chosen) d i) (set (p .busy) (p .count) d))
-
--- The moments at which the pieces chosen by the first k of the desks that work would be finished count too.
-unfoldable pub endNext : ℕ → List ℕ → List ℕ → List ℕ → ℕ → ℕ → ℕ
-endNext t left chosen busy zero next = next
-endNext t left chosen busy (suc k) next =
-    min (endNext t left chosen busy k next) (t + getD left (getD chosen (getD busy k 0) 0) 0)
+-- The moments at which the pieces f 0 to f (k - 1) would be finished count too.
+unfoldable pub endNext : ℕ → List ℕ → (ℕ → ℕ) → ℕ → ℕ → ℕ
+endNext t left f zero next = next
+endNext t left f (suc k) next = min (endNext t left f k next) (t + getD left (f k) 0)
 
 -- The open pieces looked at: every desk's choice, the desks that work, and the first moment at which one becomes ready.
 pub record LookedAt (v : View) (S : ℕ → Type 0) (count : ℕ) (chosen busy : List ℕ) (next : ℕ) : Type 0 where
   pub choices : (d : ℕ) → d < 32 → Choice v S d (getD chosen d 0)
-  pub working : Busy count chosen busy
+  pub working : Busy 256 count chosen busy
   pub later : Later v S next
 
 -- The whole decision: the next moment is that one, or an end before it.
 pub record Decided (v : View) (S : ℕ → Type 0) (count : ℕ) (chosen busy : List ℕ) (next : ℕ) : Type 0 where
   pub soon : ℕ
   pub looked-at : LookedAt v S count chosen busy soon
-  pub next-is : next ≡ endNext (v .moment) (v .left) chosen busy count soon
+  pub next-is : next ≡ endNext (v .moment) (v .left) (whom chosen busy) count soon
 
 -- The number that stands for who a desk works on.
 unfoldable pub codeOf : Option ℕ → ℕ

@@ -10,6 +10,10 @@ unfoldable pub keyOf : ℤ → ℕ → ℕ
 keyOf (pos k) i = (k + 524288) * 256 + i
 keyOf (negsuc k) i = (524287 - k) * 256 + i
 
+-- A number above every key: nobody's.
+abbrev pub noKey : ℕ
+noKey = 18446744073709551615
+
 -- The keys of the first n pieces.
 pub record Keyed (n : ℕ) (latests : List ℤ) (keys : List ℕ) : Type 0 where
   pub sized : length keys ≡ 256

@@ -1,6 +1,6 @@
 -- The open pieces: those that are unfinished and wait for no piece. They stand in the first places of a table, in any
 -- order, and another table says where; a decision looks at no others.
-use Prim.Native.Nat.{ℕ, zero, suc, _≤_, _<_}
+use Prim.Native.Nat.{ℕ, zero, suc, _%_, _≤_, _<_}
 use mathlib.Core.Bool.{Bool, true, false}
 use mathlib.Core.List.{List}
 use mathlib.Core.Path.{_≡_}
@@ -8,6 +8,7 @@ use lib.Dec.{ltb, eqb}
 use lib.ListN.{length, getD}
 use Rattle.rules.specs.Words.{when}
 use Rattle.links.specs.Links.{counted}
+use Rattle.steps.specs.Keys.{noKey}
 
 -- One of the first k places of the table has i.
 abbrev pub Among : List ℕ → ℕ → ℕ → Type 0
@@ -88,8 +89,11 @@ spentTo chosen busy left U zero j = U j
 spentTo chosen busy left U (suc k) j =
     when (eqb j (getD chosen (getD busy k 0) 0)) (unfinished left j) (spentTo chosen busy left U k j)
 
--- A look at the first `opened` of the table stays inside the tables of the pieces and of the desks.
-pub record Lookable (opened : ℕ) (table desks : List ℕ) : Type 0 where
+-- A look at the first `opened` of the table stays inside the tables of the pieces and of the desks, and the last eight bits
+-- of each key that it meets tell whose it is.
+pub record Lookable (opened : ℕ) (table desks keys : List ℕ) : Type 0 where
   pub few : opened ≤ 256
   pub small : (q : ℕ) → q < opened → getD table q 0 < 256
   pub desk-most : (q : ℕ) → q < opened → getD desks (getD table q 0) 0 < 32
+  pub telling : (q : ℕ) → q < opened → getD keys (getD table q 0) 0 % 256 ≡ getD table q 0
+  pub own-key : (q : ℕ) → q < opened → getD keys (getD table q 0) 0 < noKey

@@ -12,6 +12,7 @@ use Rattle.rules.specs.Tables.{linkIn}
 use Rattle.rules.specs.Urgency.{start, finish, horizon}
 use Rattle.rules.specs.declared.Link.{Link}
 use Rattle.laws.proofs.Finishing.{all-finished, horizon-most}
+use Rattle.laws.proofs.Latest.{latest-most}
 use Rattle.laws.proofs.Sound.{LinkFits, fits, link-fit}
 use Rattle.laws.proofs.Words.{length-below, mem-map, below-mem}
 use Rattle.links.specs.Links.{linksTo}
@@ -26,6 +27,7 @@ use Rattle.steps.specs.Opening.{Among, unfinished, Opening, Lookable}
 use Rattle.steps.specs.Tables.{Tables, Listed}
 use Rattle.steps.specs.Work.{Work, work, workTo}
 use Rattle.steps.proofs.Begin.{begun-work, begun-waits, begun-log}
+use Rattle.steps.proofs.Precedence.{key-tells, key-somebody}
 use Rattle.steps.proofs.Scores.{scores-most}
 use Rattle.steps.proofs.Step.{Held, few-pieces, few-desks, ahead, at-most, within, finished, step}
 use Rattle.steps.proofs.Tables.{jobOf, listed}
@@ -42,7 +44,7 @@ module _ (T : Tables) (dues : List ℕ) where
   pub record Standing (t opened : ℕ) (w : Work) (s : Waiting) (l : Log) (table place busy : List ℕ) : Type 0 where
     pub held : Held job (T .pieces) (T .desks) t w s l
     pub opening : Opening (T .pieces) opened table place (unfinished (w .left)) (s .waits)
-    pub busy-sized : length busy ≡ 32
+    pub busy-sized : length busy ≡ 33
 
   module _ (g : Ranked job (T .pieces) (T .keys)) where
     lists : Listed job T
@@ -102,11 +104,14 @@ module _ (T : Tables) (dues : List ℕ) where
     in-time t w s l h = omega (arith, h .in-time, horizon-most job (g .sound) (g .free))
 
     pub lookable : (opened : ℕ) (table place : List ℕ) (U : ℕ → Bool) (waits : List ℕ)
-        → Opening (T .pieces) opened table place U waits → Lookable opened table (T .desks)
+        → Opening (T .pieces) opened table place U waits → Lookable opened table (T .desks) (T .keys)
     lookable opened table place U waits o = record {
       few = omega (arith, opened-few (T .pieces) opened table place U waits o, few);
       small = λ q h. omega (arith, o .inside q h, few);
       desk-most = λ q h. desks-few (getD table q 0) (o .inside q h);
+      telling = λ q h. rw (g .key-is _ (o .inside q h)) (key-tells _ _ (omega (arith, o .inside q h, few)));
+      own-key = λ q h. rw (g .key-is _ (o .inside q h)) (key-somebody _ _ (omega (arith, o .inside q h, few))
+          (latest-most job (g .sound) (g .free) _ (rw (lists .count) (o .inside q h))));
     }
 
     -- Before the first slot every piece is unfinished.

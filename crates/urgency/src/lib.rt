@@ -74,7 +74,7 @@ fn plan_by(
     let mut table = [0u16; 256];
     let mut place = [0u16; 256];
     let mut chosen = [256u16; 32];
-    let mut busy = [0u16; 32];
+    let mut busy = [0u16; 33];
     let mut last = [512usize; 32];
     begin(n, durations, releases, &mut left, &mut ready, start, finish);
     links::queue::count_into(afters, m, &mut waits);

@@ -21,10 +21,10 @@ unfolding workTo
 loop-holds c = (omega arith, refl)
 
 -- The place looked at, and the desk in it, are inside the tables.
-place-in : (c : tie.In-loop Inv-loop μ-loop) → c .before .loop .q < 32
+place-in : (c : tie.In-loop Inv-loop μ-loop) → c .before .loop .q < 33
 place-in c =
     let s = c .before .before in
-    omega (arith, c .loop-test .taken, busy-few (s .args .count) (s .args .chosen .now) (s .args .busy .now) (s .pre))
+    omega (arith, c .loop-test .taken, busy-few 256 (s .args .count) (s .args .chosen .now) (s .args .busy .now) (s .pre))
 
 desk-in : (c : tie.In-loop Inv-loop μ-loop) → getD (c .before .before .args .busy .now) (c .before .loop .q) 0 < 32
 desk-in c = let s = c .before .before in s .pre .desk-most (c .before .loop .q) (c .loop-test .taken)

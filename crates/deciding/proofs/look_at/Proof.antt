@@ -1,25 +1,27 @@
--- `choose` looks at the open pieces one after the other. The loop's invariant: the choices, the desks that work and the
+-- `look_at` looks at the open pieces one after the other. The loop's invariant: the least keys, the desks that work and the
 -- next moment are those of the pieces in the first k places.
 use Prim.Native.Nat.{ℕ, _+_, _-_, _≤_, _<_}
 use mathlib.Core.List.{List}
 use mathlib.Core.Path.{_≡_, refl}
 use native.Mathlib.Omega.{arith}
 use lib.ListN.{getD}
-use Rattle.steps.specs.Choice.{View, view, LookedAt}
+use Rattle.steps.specs.Choice.{View, view}
+use Rattle.steps.specs.Keys.{noKey}
 use Rattle.steps.specs.Opening.{Among}
-use Rattle.deciding.proofs.Desks.{busy-room}
+use Rattle.steps.proofs.Decision.{busy-few}
+use Rattle.deciding.specs.Look.{Looked}
 use Rattle.deciding.proofs.Looking.{looked-none, looked-later, looked-offered}
 use Rattle.deciding.proofs.Places.{among-more, among-last, among-split}
-use Rattle.deciding.proofs.choose.Statement.{statement}
-use Rattle.deciding.proofs.choose.Tie as tie
+use Rattle.deciding.proofs.look_at.Statement.{statement}
+use Rattle.deciding.proofs.look_at.Tie as tie
 
 abbrev Inv-loop : tie.InvT-loop
-Inv-loop t opened desks keys ready table chosen₀ busy₀ count₀ next₀ k₀ chosen busy count next k =
+Inv-loop t opened desks keys ready table best₀ busy₀ count₀ next₀ k₀ best busy count next k =
     (k ≤ opened)
-    × ((left : List ℕ) → LookedAt (view t desks keys left ready) (Among table k) count chosen busy next)
+    × ((left : List ℕ) → Looked (view t desks keys left ready) (Among table k) count best busy next)
 
 abbrev μ-loop : tie.MeasureT-loop
-μ-loop t opened desks keys ready table chosen₀ busy₀ count₀ next₀ k₀ chosen busy count next k = opened - k
+μ-loop t opened desks keys ready table best₀ busy₀ count₀ next₀ k₀ best busy count next k = opened - k
 
 -- What the function sees.
 abbrev seen : tie.Start Inv-loop μ-loop → List ℕ → View
@@ -29,7 +31,7 @@ loop-holds : tie.Need-loop-holds Inv-loop μ-loop
 loop-holds c =
     let a = c .args in (
       omega arith,
-      λ left. looked-none (seen c left) (a .table .now) (a .chosen .now) (a .busy .now) (c .pre .1 .1) (c .pre .1 .0)
+      λ left. looked-none (seen c left) (a .table .now) (a .best .now) (a .busy .now) (c .pre .1 .1) (c .pre .1 .0)
           (c .pre .1 .2),
     )
 
@@ -85,52 +87,56 @@ loop-again c =
       omega arith,
       λ left. looked-later (seen (t .before .before) left) (Among table (l .k)) (Among table (l .k + 1))
           (among-more table (l .k)) (piece t) (among-last table (l .k)) (among-split table (l .k))
-          (l .count) (l .chosen) (l .busy) (l .next) (c .lesser .result) (later .if1 .taken) (c .lesser .ensures)
+          (l .count) (l .best) (l .busy) (l .next) (c .lesser .result) (later .if1 .taken) (c .lesser .ensures)
           (l .inv .1 left),
     )
+
+mul-offer : tie.Need-mul-offer Inv-loop μ-loop
+mul-offer c = omega (arith, piece-in (c .before .before .before))
 
 element-copy-out-offer : tie.Need-element-copy-out-offer Inv-loop μ-loop
 element-copy-out-offer c = piece-in (c .before .before .before)
 
+element-copy-out-offer-2 : tie.Need-element-copy-out-offer-2 Inv-loop μ-loop
+element-copy-out-offer-2 c = piece-in (c .before .before .before .before)
+
 cast-offer : tie.Need-cast-offer Inv-loop μ-loop
-cast-offer c = omega (arith, desk-in (c .before .before .before .before))
+cast-offer c = omega (arith, desk-in (c .before .before .before .before .before))
 
 offer-requires : tie.Need-offer-requires Inv-loop μ-loop
 offer-requires c κs =
-    let t = c .before .before .before .before .before .before in
+    let t = c .before .before .before .before .before .before .before in
     let l = t .before .loop in (
-      piece-in t,
       desk-in t,
-      busy-room (l .count) (l .chosen) (l .busy) (l .inv .1 (t .before .before .args .table .now) .working)
-          (getD (t .before .before .args .desks .now) (piece t) 0) (piece t) (desk-in t) (piece-in t),
+      omega (arith, busy-few noKey (l .count) (l .best) (l .busy) (l .inv .1 (t .before .before .args .table .now) .working)),
     )
 
 add-k-2 : tie.Need-add-k-2 Inv-loop μ-loop
-add-k-2 c = omega (arith, place-in (c .before .before .before .before .before .before .before))
+add-k-2 c = omega (arith, place-in (c .before .before .before .before .before .before .before .before))
 
 loop-less-2 : tie.Need-loop-less-2 Inv-loop μ-loop
 loop-less-2 c = omega arith
 
 loop-again-2 : tie.Need-loop-again-2 Inv-loop μ-loop
 loop-again-2 c =
-    let asks = c .before .before .before .before in
+    let asks = c .before .before .before .before .before in
     let t = asks .before .before .before in
     let l = t .before .loop in
     let table = t .before .before .args .table .now in (
       omega arith,
       λ left. looked-offered (seen (t .before .before) left) (Among table (l .k)) (Among table (l .k + 1))
           (among-more table (l .k)) (piece t) (among-last table (l .k)) (among-split table (l .k))
-          (getD (t .before .before .args .desks .now) (piece t) 0) (desk-in t) (piece-in t)
-          (λ j m. rw (m .2) at (t .before .before .pre .0 .small (m .0) (omega (arith, m .1, t .loop-test .taken)))) refl
-          (asks .if1 .left) (l .count) (l .chosen) (l .busy) (l .next) (l .inv .1 left) _ (c .offer .ensures),
+          (getD (t .before .before .args .desks .now) (piece t) 0) (desk-in t) refl (asks .if1 .left)
+          (λ j m. rw (m .2) at (t .before .before .pre .0 .own-key (m .0) (omega (arith, m .1, t .loop-test .taken))))
+          (l .count) (l .best) (l .busy) (l .next) (l .inv .1 left) _ (c .offer .ensures),
     )
 
 returns : tie.Need-returns Inv-loop μ-loop
 returns c =
     let e : c .before .loop .k ≡ c .before .before .args .opened = omega arith in rw e at (c .before .loop .inv .1)
 
-pub choose-spec : {M : Type 1} → statement M
-choose-spec =
+pub look-at-spec : {M : Type 1} → statement M
+look-at-spec =
     tie.close
     (tie.spec
     Inv-loop
@@ -147,7 +153,9 @@ choose-spec =
     add-k
     loop-less
     loop-again
+    mul-offer
     element-copy-out-offer
+    element-copy-out-offer-2
     cast-offer
     offer-requires
     add-k-2
