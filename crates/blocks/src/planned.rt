@@ -5,6 +5,7 @@ use crate::sheet::Sheet;
 use crate::sheet::desk_sheet;
 use ready::raise::raised_moments;
 ghost use Rattle.rules.specs.Job.{Job};
+ghost use Rattle.links.specs.Rings.{Walkable};
 ghost use Rattle.method.specs.Board.{Tables};
 ghost use Rattle.blocks.specs.Rows.{RowTables};
 ghost use Rattle.blocks.specs.Sheet.{Laid, SheetOf};
@@ -19,6 +20,9 @@ pub fn planned_sheet(
     befores: &[u16; 1024],
     afters: &[u16; 1024],
     handovers: &[u16; 1024],
+    lasts: &[u16; 256],
+    priors: &[u16; 1024],
+    order: &[u16; 256],
     finishes: &[u32; 256],
     latests: &[i32; 256],
     counts: &mut [u16; 256],
@@ -32,6 +36,7 @@ pub fn planned_sheet(
         ((J : Job) × Laid J n m (now desks) (now durations) (now releases) (now befores) (now afters) (now handovers)
         (now finishes) (now latests))
         ⌝ }
+    requires { ⌜ Walkable n m (now befores) (now afters) (now lasts) (now priors) (now order) ⌝ }
     requires { ⌜ RowTables (now counts) (now starts) (now ends) ⌝ }
     requires { ⌜ Tables (now pieces) (now froms) (now untils) ⌝ }
     ensures { λ r.
@@ -46,13 +51,14 @@ pub fn planned_sheet(
     let mut ready = [0u32; 256];
     raised_moments(
         n,
-        m,
         desks,
         durations,
         releases,
-        befores,
         afters,
         handovers,
+        lasts,
+        priors,
+        order,
         finishes,
         &mut ready,
     );

@@ -48,6 +48,7 @@ pub record ToPrint (n count : ℕ) (desks finishes : List ℕ) (latests : List �
   pub room : 211 * n + length (runLinesIn 32 count desks pieces froms untils) + 141 ≤ length text
 
 -- A job that some file was accepted for, and room for its listing.
-pub record ToList (n m : ℕ) (K : J.Job) (text : List ℕ) : Type 0 where
-  pub planable : Planable n m K
+pub record ToList (n m : ℕ) (desks durations releases dues befores afters handovers lasts priors order text : List ℕ)
+    : Type 0 where
+  pub planable : Planable n m desks durations releases dues befores afters handovers lasts priors order
   pub room : enough ≤ length text

@@ -57,10 +57,13 @@ fn list_accepted(
     befores: &[u16; 1024],
     afters: &[u16; 1024],
     handovers: &[u16; 1024],
+    lasts: &[u16; 256],
+    priors: &[u16; 1024],
+    order: &[u16; 256],
     text: &mut [u8],
 ) -> usize
-    requires { ⌜ ToList pieces links (jobIn pieces links (now desks) (now durations) (now releases) (now dues) (now befores)
-        (now afters) (now handovers)) (now text) ⌝ }
+    requires { ⌜ ToList pieces links (now desks) (now durations) (now releases) (now dues) (now befores) (now afters)
+        (now handovers) (now lasts) (now priors) (now order) (now text) ⌝ }
     ensures { λ r. ⌜ ((file : List ℕ) → fileOutcome file ≡ accepted (jobIn pieces links (now (desks .entry))
         (now (durations .entry)) (now (releases .entry)) (now (dues .entry)) (now (befores .entry)) (now (afters .entry))
         (now (handovers .entry))) → ListingPromise file (now (text .entry)) r (now (text .exit))) ⌝ }
@@ -81,6 +84,9 @@ fn list_accepted(
         befores,
         afters,
         handovers,
+        lasts,
+        priors,
+        order,
         &mut starts,
         &mut finishes,
         &mut latests,
@@ -117,6 +123,9 @@ pub fn write_listing(file: &[u8], text: &mut [u8]) -> usize
     let mut befores = [0u16; 1024];
     let mut afters = [0u16; 1024];
     let mut handovers = [0u16; 1024];
+    let mut lasts = [0u16; 256];
+    let mut priors = [0u16; 1024];
+    let mut order = [0u16; 256];
     let judged = judge_file(
         file,
         &mut desks,
@@ -126,6 +135,9 @@ pub fn write_listing(file: &[u8], text: &mut [u8]) -> usize
         &mut befores,
         &mut afters,
         &mut handovers,
+        &mut lasts,
+        &mut priors,
+        &mut order,
     );
     match judged {
         Read::Refused(refusal) => put_refused_line(text, 0, refusal.number as u64, refusal.place),
@@ -139,6 +151,9 @@ pub fn write_listing(file: &[u8], text: &mut [u8]) -> usize
             &befores,
             &afters,
             &handovers,
+            &lasts,
+            &priors,
+            &order,
             text,
         ),
     }

@@ -1,8 +1,9 @@
 -- Chains: one key more at the end of its chain leaves the other chains as they are; and a chain is walked from its last
 -- link back, past exactly the links with its key.
-use Prim.Native.Nat.{ℕ, zero, suc, _+_, _≤_, _<_}
+use Prim.Native.Nat.{ℕ, zero, suc, _+_, _-_, _≤_, _<_}
 use mathlib.Core.Bool.{Bool, true, false}
 use mathlib.Core.List.{List, [], _∷_, List·Memᴰ as Mem, List·Memᴰ·head as here, List·Memᴰ·tail as there}
+use mathlib.Core.Logic.{_⊎_, inl, inr}
 use mathlib.Core.Path.{_≡_, refl, sym, ap, _∙_}
 use native.Mathlib.Numerals.{add-one}
 use native.Mathlib.Omega.{arith}
@@ -121,3 +122,58 @@ module _ (keys : List ℕ) (i : ℕ) where
       go : (b : Bool) → Mem k (placesWith keys i n) → Mem k (when b (n ∷ placesWith keys i n) (placesWith keys i n))
       go true m = there m
       go false m = m
+
+-- A walk along the chain of i, before the link at place `at - 1`: the links of i from `bound` on are behind it.
+pub record OnChain (keys : List ℕ) (i n at bound : ℕ) : Type 0 where
+  pub within : bound ≤ n
+  pub here-is : at ≡ lastWith keys i bound
+
+module _ (keys : List ℕ) (n : ℕ) (last prior : List ℕ) (C : Chained keys n last prior) (i : ℕ) where
+  pub chain-start : i < 256 → OnChain keys i n (getD last i 0) n
+  chain-start small = record { within = omega arith; here-is = C .ends i small }
+
+  module _ (at bound : ℕ) (W : OnChain keys i n at bound) where
+    pub on-most : at ≤ n
+    on-most = omega (arith, W .here-is, W .within, chain-most keys i bound)
+
+    pub on-end : at ≡ 0 → placesWith keys i bound ≡ []
+    on-end e = chain-end keys i bound (sym (W .here-is) ∙ e)
+
+    -- At its end all links of i are behind it.
+    pub on-last : at ≡ 0 → (j : ℕ) → getD keys j 0 ≡ i → bound ≤ j
+    on-last e j k = by-test (ltb j bound)
+        (λ l. no-place (rw (on-end e) at (key-places keys i bound j (ltb-true j bound l) k)))
+        (λ l. ltb-false j bound l)
+      where
+        no-place : Mem j [] → bound ≤ j
+        no-place m = elim m [ ]
+
+    -- At a link: it is one of i's, and the first of those that are left.
+    module _ (on : at ≡ 0 → ⊥) where
+      found : lastWith keys i bound ≡ suc (at - 1)
+      found = omega (arith, W .here-is)
+
+      pub on-link : (at - 1 < n) × (getD keys (at - 1) 0 ≡ i)
+      on-link = let w = chain-key keys i bound (at - 1) found in (omega (arith, w .0, W .within), w .1)
+
+      pub on-first : placesWith keys i bound ≡ (at - 1) ∷ placesWith keys i (at - 1)
+      on-first = chain-next keys i bound (at - 1) found
+
+      next : getD prior (at - 1) 0 ≡ lastWith keys i (at - 1)
+      next = C .goes-on (at - 1) (on-link .0) ∙ ap (λ x. lastWith keys x (at - 1)) (on-link .1)
+
+      pub on-falls : getD prior (at - 1) 0 < at
+      on-falls = omega (arith, next, chain-most keys i (at - 1))
+
+      pub on-next : OnChain keys i n (getD prior (at - 1) 0) (at - 1)
+      on-next = record { within = omega (arith, on-link .0); here-is = next }
+
+      -- Of the links of i that are not further on, it is the only one not behind.
+      pub on-or-behind : (j : ℕ) → getD keys j 0 ≡ i → at - 1 ≤ j → (j ≡ at - 1) ⊎ (bound ≤ j)
+      on-or-behind j k h = by-test (ltb j bound)
+          (λ l. inl (first (rw on-first at (key-places keys i bound j (ltb-true j bound l) k))))
+          (λ l. inr (ltb-false j bound l))
+        where
+          first : Mem j ((at - 1) ∷ placesWith keys i (at - 1)) → j ≡ at - 1
+          first (here e) = e
+          first (there m) = absurd (omega (arith, h, places-key keys i (at - 1) j m .0))

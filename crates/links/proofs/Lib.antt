@@ -6,5 +6,3 @@ pub mod QueueLaws
 pub mod PassingLaws
 pub mod RingLaws
 pub mod Placing
-pub mod Tightening
-pub mod Rounds

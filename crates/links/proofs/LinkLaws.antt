@@ -3,7 +3,7 @@
 use Prim.Native.Nat.{ℕ, _<_}
 use mathlib.Core.Bool.{Bool, true, _&&_, _||_}
 use mathlib.Core.List.{List, [], _∷_, map}
-use mathlib.Core.Path.{_≡_, refl, sym, ap, _∙_, fun-ext}
+use mathlib.Core.Path.{_≡_, refl, ap, _∙_, fun-ext}
 use native.Mathlib.Omega.{arith}
 use borrow.Author.Tests.{eqb-true, eq-eqb}
 use lib.Dec.{eqb}
@@ -16,8 +16,6 @@ use Rattle.laws.proofs.Words.{and-true, and-intro, oneOf-found, oneOf-intro}
 use Rattle.laws.proofs.Words.{mem-below, below-mem, length-below, getD-below}
 use Rattle.laws.proofs.Sound.{LinkFits, link-fits}
 use Rattle.links.specs.Links.{Ties, follows}
-use Rattle.links.specs.Rings.{ringAt, RingChecked}
-use Rattle.links.specs.declared.rings.Ring.{Ring}
 
 -- The test on two pieces, and the links of the tables.
 module _ (m : ℕ) (befores afters : List ℕ) where
@@ -73,10 +71,6 @@ module _ (n m : ℕ) (desks durations releases dues befores afters handovers : L
   pub job-ring : ringPiece J ≡ lowestOnRing (follows m befores afters) n
   unfolding ringPiece
   job-ring = rw (job-linked, job-pieces)
-
-  -- So what the ring check finds in the tables is what the job is judged by.
-  pub job-checked : (order : List ℕ) (r : Ring) → RingChecked n m befores afters order r → ringAt r ≡ ringPiece J
-  job-checked order r C = C .found ∙ sym job-ring
 
   pub job-piece : (i : ℕ) → i < n → piece J i ≡ pieceIn desks durations releases dues i
   unfolding jobIn piecesIn

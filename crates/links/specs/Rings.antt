@@ -17,20 +17,21 @@ abbrev pub ringAt : Ring → Option ℕ
 ringAt Free = none
 ringAt (At i) = some i
 
--- What is checked: links between the pieces, and a lent table for an order of them.
-pub record ToCheck (n m : ℕ) (befores afters order : List ℕ) : Type 0 where
+-- What is checked: links between the pieces; and lent tables for an order of them and, still clear, for the chains.
+pub record ToCheck (n m : ℕ) (befores afters last prior order : List ℕ) : Type 0 where
   pub ties : Ties n m befores afters
   pub sized : length order ≡ 256
-
--- The answer names the lowest piece on a ring; where there is none, the pieces stand in order.
-pub record RingChecked (n m : ℕ) (befores afters order : List ℕ) (r : Ring) : Type 0 where
-  pub found : ringAt r ≡ lowestOnRing (follows m befores afters) n
-  pub ordered : r ≡ Free → InOrder n m befores afters order
-
--- To place the pieces: the same, and clear tables for the chains.
-pub record ToPlace (n m : ℕ) (befores afters last prior order : List ℕ) : Type 0 where
-  pub check : ToCheck n m befores afters order
   pub chains : ToChain befores m last prior
+
+-- Links that can be walked, from each piece by its chain, and from piece to piece in an order.
+pub record Walkable (n m : ℕ) (befores afters last prior order : List ℕ) : Type 0 where
+  pub chained : Chained befores m last prior
+  pub ordered : InOrder n m befores afters order
+
+-- The answer names the lowest piece on a ring; where there is none, the links can be walked.
+pub record RingChecked (n m : ℕ) (befores afters last prior order : List ℕ) (r : Ring) : Type 0 where
+  pub found : ringAt r ≡ lowestOnRing (follows m befores afters) n
+  pub walkable : r ≡ Free → Walkable n m befores afters last prior order
 
 -- So many are placed, in order if all are; a piece is left only for a ring.
 pub record Placed (n m : ℕ) (befores afters last prior order : List ℕ) (r : ℕ) : Type 0 where

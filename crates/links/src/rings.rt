@@ -5,7 +5,7 @@ use crate::queue::count_into;
 use crate::queue::pass_all;
 use crate::queue::pass_on;
 use crate::queue::place_free;
-ghost use Rattle.links.specs.Rings.{ToCheck, RingChecked, ToPlace, Placed, ToLead, LeadsBack, ToFind, Lowest};
+ghost use Rattle.links.specs.Rings.{ToCheck, RingChecked, Placed, ToLead, LeadsBack, ToFind, Lowest};
 
 // No ring, or the lowest piece on one.
 pub enum Ring {
@@ -59,7 +59,7 @@ fn place_pieces(
     prior: &mut [u16; 1024],
     order: &mut [u16; 256],
 ) -> usize
-    requires { ⌜ ToPlace pieces links (now befores) (now afters) (now last) (now prior) (now order) ⌝ }
+    requires { ⌜ ToCheck pieces links (now befores) (now afters) (now last) (now prior) (now order) ⌝ }
     ensures { λ r. ⌜ Placed pieces links (now (befores .entry)) (now (afters .entry))
         (now (last .exit)) (now (prior .exit)) (now (order .exit)) r ⌝ }
 {
@@ -70,22 +70,24 @@ fn place_pieces(
     pass_all(free, afters, last, prior, order, &mut waits)
 }
 
-// No ring, and `order` holds the pieces in order; or the lowest piece on a ring, and `order` holds nothing of use.
+// No ring, and `order` holds the pieces in order; or the lowest piece on a ring, and `order` holds nothing of use. The
+// chains that are made on the way are left for whoever walks the links.
 pub fn ring_check(
     pieces: usize,
     links: usize,
     befores: &[u16; 1024],
     afters: &[u16; 1024],
+    last: &mut [u16; 256],
+    prior: &mut [u16; 1024],
     order: &mut [u16; 256],
 ) -> Ring
-    requires { ⌜ ToCheck pieces links (now befores) (now afters) (now order) ⌝ }
-    ensures { λ r. ⌜ RingChecked pieces links (now (befores .entry)) (now (afters .entry)) (now (order .exit)) r ⌝ }
+    requires { ⌜ ToCheck pieces links (now befores) (now afters) (now last) (now prior) (now order) ⌝ }
+    ensures { λ r. ⌜ RingChecked pieces links (now (befores .entry)) (now (afters .entry)) (now (last .exit))
+        (now (prior .exit)) (now (order .exit)) r ⌝ }
 {
-    let mut last = [0u16; 256];
-    let mut prior = [0u16; 1024];
-    let placed = place_pieces(pieces, links, befores, afters, &mut last, &mut prior, order);
+    let placed = place_pieces(pieces, links, befores, afters, last, prior, order);
     if placed == pieces {
         return Ring::Free;
     }
-    Ring::At(lowest_on_ring(afters, &last, &prior, order))
+    Ring::At(lowest_on_ring(afters, last, prior, order))
 }

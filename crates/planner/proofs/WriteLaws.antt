@@ -12,14 +12,13 @@ use Rattle.rules.specs.Job.{Job, pieceCount, refused, accepted}
 use Rattle.rules.specs.Judgement.{fileOutcome}
 use Rattle.rules.specs.declared.Refusal.{Refusal}
 use Rattle.rules.specs.declared.PlanAnswer.{PlanAnswer}
-use Rattle.rules.specs.Moments.{latest}
 use Rattle.rules.specs.Rings.{ringPiece}
 use Rattle.rules.specs.Tables.{Sound, jobIn, pieceIn}
 use Rattle.laws.proofs.Signed.{up, dn, _≼_, below-zero, below-zero-is}
 use Rattle.laws.proofs.Latest.{latest-least, latest-most}
 use Rattle.demands.proofs.Accepting.{accepted-sound, accepted-free}
 use Rattle.demands.proofs.Finishes.{finish-most}
-use Rattle.links.specs.Moments.{ToTime, Timed}
+use Rattle.moments.specs.Moments.{Timeable, ToTime, Timed}
 use Rattle.links.proofs.LinkLaws.{job-pieces, job-piece, job-links}
 use Rattle.urgency.specs.Plan.{Given, Planned}
 use Rattle.output.specs.Written.{LogFits}
@@ -38,30 +37,35 @@ unfolding up dn
 near-zero (ℤ.pos k) low high = omega arith
 near-zero (ℤ.negsuc k) low high = omega (arith, below-zero-is 244800)
 
-module _ (n m : ℕ) (desks durations releases dues befores afters handovers : List ℕ)
-    (P : Planable n m (jobIn n m desks durations releases dues befores afters handovers)) where
+module _ (n m : ℕ) (desks durations releases dues befores afters handovers lasts priors order : List ℕ)
+    (P : Planable n m desks durations releases dues befores afters handovers lasts priors order) where
   sound-here : Sound (jobIn n m desks durations releases dues befores afters handovers)
   sound-here = accepted-sound (P .file) _ (P .says)
 
   free-here : ringPiece (jobIn n m desks durations releases dues befores afters handovers) ≡ none
   free-here = accepted-free (P .file) _ (P .says)
 
-  pub to-time : (moments : List ℤ) → length moments ≡ 256 → ToTime n m durations dues befores afters moments
-  to-time moments sized = record {
+  abbrev timeable : Timeable n durations dues afters lasts priors order
+  timeable = record {
+    links = m;
     desks = desks;
     releases = releases;
+    befores = befores;
     handovers = handovers;
     sound = sound-here;
     free = free-here;
-    sized = sized;
+    walkable = P .walkable;
   }
 
-  module _ (latests : List ℤ) (timed : Timed n m durations dues befores afters latests) where
+  pub to-time : (moments : List ℤ) → length moments ≡ 256 → ToTime n durations dues afters lasts priors order moments
+  to-time moments sized = record { timeable = timeable; sized = sized }
+
+  module _ (latests : List ℤ) (timed : Timed n durations dues afters lasts priors order latests) where
     pub given-here : Given (jobIn n m desks durations releases dues befores afters handovers) n latests
     given-here = record {
       sound = sound-here;
       free = free-here;
-      latest-is = timed .latests desks releases handovers sound-here free-here;
+      latest-is = timed .latests timeable;
     }
 
     pub finished-here : (starts finishes pieces froms untils : List ℕ) (count : ℕ)
@@ -104,18 +108,20 @@ module _ {J : Job} {n : ℕ} {desks starts finishes : List ℕ} {latests : List 
       })
 
 -- What a judged file is to the plan: planable, or refused.
-module _ {s : List ℕ} {r : Read} {desks durations releases dues befores afters handovers : List ℕ}
-    (judged : JudgesFile s r desks durations releases dues befores afters handovers) where
+module _ {s : List ℕ} {r : Read} {desks durations releases dues befores afters handovers lasts priors order : List ℕ}
+    (judged : JudgesFile s r desks durations releases dues befores afters handovers lasts priors order) where
   pub accepted-here : (n m : ℕ) → r ≡ R.Job n m
       → fileOutcome s ≡ accepted (jobIn n m desks durations releases dues befores afters handovers)
   accepted-here n m e = judged .says ∙ ap (λ a. outcomeOf a desks durations releases dues befores afters handovers) e
 
-  pub planable-here : (n m : ℕ) → r ≡ R.Job n m → Planable n m (jobIn n m desks durations releases dues befores afters handovers)
+  pub planable-here : (n m : ℕ) → r ≡ R.Job n m
+      → Planable n m desks durations releases dues befores afters handovers lasts priors order
   planable-here n m e = record {
     few-pieces = omega (arith, judged .sound n m e .few-pieces, job-pieces n m desks durations releases dues befores afters handovers);
     few-links = omega (arith, judged .sound n m e .few-links, job-links n m desks durations releases dues befores afters handovers);
     file = s;
-    says = judged .says ∙ ap (λ a. outcomeOf a desks durations releases dues befores afters handovers) e;
+    says = accepted-here n m e;
+    walkable = judged .walkable n m e;
   }
 
   pub refused-here : (x : Refusal) → r ≡ R.Refused x → fileOutcome s ≡ refused x

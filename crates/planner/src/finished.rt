@@ -1,6 +1,6 @@
 // The finished plan of an accepted job in lent tables, of which every call makes what it answers: latest moments first,
 // since urgency asks for them, then the plan by urgency.
-use links::moments::latest_moments;
+use moments::latest_moments;
 ghost use mathlib.Core.Path.{_≡_};
 ghost use lib.ListN.{length};
 ghost use Rattle.rules.specs.Tables.{jobIn};
@@ -19,6 +19,9 @@ pub fn finish_plan(
     befores: &[u16; 1024],
     afters: &[u16; 1024],
     handovers: &[u16; 1024],
+    lasts: &[u16; 256],
+    priors: &[u16; 1024],
+    order: &[u16; 256],
     starts: &mut [u32; 256],
     finishes: &mut [u32; 256],
     latests: &mut [i32; 256],
@@ -26,8 +29,8 @@ pub fn finish_plan(
     froms: &mut [u32; 512],
     untils: &mut [u32; 512],
 ) -> usize
-    requires { ⌜ Planable n m (jobIn n m (now desks) (now durations) (now releases) (now dues) (now befores) (now afters)
-        (now handovers)) ⌝ }
+    requires { ⌜ Planable n m (now desks) (now durations) (now releases) (now dues) (now befores) (now afters)
+        (now handovers) (now lasts) (now priors) (now order) ⌝ }
     requires { ⌜ Sized (now starts) (now finishes) (now pieces) (now froms) (now untils) ⌝ }
     requires { ⌜ length (now latests) ≡ 256 ⌝ }
     ensures { λ r. ⌜ Finished (jobIn n m (now (desks .entry)) (now (durations .entry)) (now (releases .entry))
@@ -35,7 +38,7 @@ pub fn finish_plan(
         (now (starts .exit)) (now (finishes .exit)) (now (latests .exit)) (now (pieces .exit)) (now (froms .exit))
         (now (untils .exit)) r ⌝ }
 {
-    latest_moments(n, m, durations, dues, befores, afters, latests);
+    latest_moments(n, durations, dues, afters, lasts, priors, order, latests);
     urgency::plan(
         n,
         m,
@@ -46,6 +49,8 @@ pub fn finish_plan(
         befores,
         afters,
         handovers,
+        lasts,
+        priors,
         latests,
         starts,
         finishes,

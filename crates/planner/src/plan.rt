@@ -43,10 +43,13 @@ fn write_plan(
     befores: &[u16; 1024],
     afters: &[u16; 1024],
     handovers: &[u16; 1024],
+    lasts: &[u16; 256],
+    priors: &[u16; 1024],
+    order: &[u16; 256],
     buffer: &mut [u8],
 ) -> PlanAnswer
-    requires { ⌜ ToPlan pieces links (jobIn pieces links (now desks) (now durations) (now releases) (now dues) (now befores)
-        (now afters) (now handovers)) (length (now buffer)) ⌝ }
+    requires { ⌜ ToPlan pieces links (now desks) (now durations) (now releases) (now dues) (now befores) (now afters)
+        (now handovers) (now lasts) (now priors) (now order) (length (now buffer)) ⌝ }
     ensures { λ r. ⌜ ((file : List ℕ) → fileOutcome file ≡ accepted (jobIn pieces links (now (desks .entry))
         (now (durations .entry)) (now (releases .entry)) (now (dues .entry)) (now (befores .entry)) (now (afters .entry))
         (now (handovers .entry))) → PlanPromise file (now (buffer .entry)) r (now (buffer .exit))) ⌝ }
@@ -67,6 +70,9 @@ fn write_plan(
         befores,
         afters,
         handovers,
+        lasts,
+        priors,
+        order,
         &mut starts,
         &mut finishes,
         &mut latests,
@@ -107,10 +113,13 @@ fn plan_accepted(
     befores: &[u16; 1024],
     afters: &[u16; 1024],
     handovers: &[u16; 1024],
+    lasts: &[u16; 256],
+    priors: &[u16; 1024],
+    order: &[u16; 256],
     buffer: &mut [u8],
 ) -> PlanAnswer
-    requires { ⌜ Planable pieces links (jobIn pieces links (now desks) (now durations) (now releases) (now dues) (now befores)
-        (now afters) (now handovers)) ⌝ }
+    requires { ⌜ Planable pieces links (now desks) (now durations) (now releases) (now dues) (now befores) (now afters)
+        (now handovers) (now lasts) (now priors) (now order) ⌝ }
     ensures { λ r. ⌜ ((file : List ℕ) → fileOutcome file ≡ accepted (jobIn pieces links (now (desks .entry))
         (now (durations .entry)) (now (releases .entry)) (now (dues .entry)) (now (befores .entry)) (now (afters .entry))
         (now (handovers .entry))) → PlanPromise file (now (buffer .entry)) r (now (buffer .exit))) ⌝ }
@@ -131,6 +140,9 @@ fn plan_accepted(
         befores,
         afters,
         handovers,
+        lasts,
+        priors,
+        order,
         buffer,
     )
 }
@@ -146,6 +158,9 @@ pub fn plan(file: &[u8], buffer: &mut [u8]) -> PlanAnswer
     let mut befores = [0u16; 1024];
     let mut afters = [0u16; 1024];
     let mut handovers = [0u16; 1024];
+    let mut lasts = [0u16; 256];
+    let mut priors = [0u16; 1024];
+    let mut order = [0u16; 256];
     let judged = judge_file(
         file,
         &mut desks,
@@ -155,6 +170,9 @@ pub fn plan(file: &[u8], buffer: &mut [u8]) -> PlanAnswer
         &mut befores,
         &mut afters,
         &mut handovers,
+        &mut lasts,
+        &mut priors,
+        &mut order,
     );
     match judged {
         Read::Refused(refusal) => refused(refusal),
@@ -168,6 +186,9 @@ pub fn plan(file: &[u8], buffer: &mut [u8]) -> PlanAnswer
             &befores,
             &afters,
             &handovers,
+            &lasts,
+            &priors,
+            &order,
             buffer,
         ),
     }

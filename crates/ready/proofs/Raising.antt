@@ -1,8 +1,9 @@
--- Moments raised along the links, link by link and round by round: they stay below the raised ready moments, a round without
--- a change has them all, and so has round n + 1, since each round settles the pieces that one piece more leads to.
-use Prim.Native.Nat.{ℕ, _+_, _≤_, _<_}
-use mathlib.Core.Bool.{Bool, true, false}
+-- Moments raised along the links, piece by piece in order: they stay below the raised ready moments, and a piece has its own
+-- once every piece before it had its turn.
+use Prim.Native.Nat.{ℕ, _+_, _-_, _≤_, _<_, max}
+use mathlib.Core.Bool.{false}
 use mathlib.Core.List.{List, List·Memᴰ as Mem}
+use mathlib.Core.Logic.{⊎-elim}
 use mathlib.Core.Option.{none}
 use mathlib.Core.Path.{_≡_, refl, sym, ap, _∙_}
 use native.Mathlib.Nat.{le-antisymm}
@@ -19,21 +20,27 @@ use Rattle.rules.specs.Tables.{linkIn, Sound}
 use Rattle.rules.specs.Urgency.{finish}
 use Rattle.rules.specs.Entries.{raised}
 use Rattle.rules.specs.declared.Link.{Link}
-use Rattle.laws.proofs.Words.{true-or-false, when-true, when-false}
-use Rattle.laws.proofs.Sound.{link-fit, into-link, link-into, ahead, ahead-falls, ahead-few, along-before}
+use Rattle.laws.proofs.Words.{when-true, when-false}
+use Rattle.laws.proofs.Sound.{link-fit, into-link, link-into}
 use Rattle.laws.proofs.Raised.{elsewhere-link, link-elsewhere, own-link, link-own, ready-release, ready-after, ready-least, raised-ready, raised-after, raised-least}
-use Rattle.theory.proofs.Cases.{by-eq, by-le}
+use Rattle.theory.proofs.Cases.{by-eq}
 use Rattle.demands.proofs.Finishes.{finish-most}
+use Rattle.links.specs.Chains.{Chained}
+use Rattle.links.specs.Links.{InOrder}
+use Rattle.links.proofs.ChainLaws.{OnChain, chain-start, on-most, on-link, on-falls, on-next, on-or-behind, on-last}
 use Rattle.method.specs.Hours.{deskEnd}
 use Rattle.ready.specs.Planned.{Planned, Tabled, Released, leaves, asks, Below, Risen, HoldsRaised}
 use Rattle.ready.proofs.FromTables.{job-count, job-desk, job-duration, link-mem, mem-link, links-few, raised-most}
 
-pub planned-tabled : (J : Job) (n m : ℕ) (desks durations releases befores afters handovers finishes : List ℕ)
-    → Planned J n m desks durations releases befores afters handovers finishes
-    → Tabled J m desks durations befores afters handovers finishes
-planned-tabled J n m desks durations releases befores afters handovers finishes p =
+pub planned-tabled : (J : Job) (n m : ℕ) (desks durations releases befores afters handovers finishes lasts priors : List ℕ)
+    → Planned J n m desks durations releases befores afters handovers finishes → Chained befores m lasts priors
+    → Tabled J desks durations afters handovers lasts priors finishes
+planned-tabled J n m desks durations releases befores afters handovers finishes lasts priors p chained =
     let c = job-count J n m desks durations releases befores afters handovers finishes p in
     record {
+      links = m;
+      befores = befores;
+      chained = chained;
       sound = p .sound;
       free = p .free;
       few = links-few J n m desks durations releases befores afters handovers finishes p;
@@ -106,172 +113,209 @@ module _ (J : Job) (sound : Sound J) (free : ringPiece J ≡ none) where
         own l (w .0) (w .1) (o .1),
       ))
 
--- The first k links of a round.
-module _ (J : Job) (m : ℕ) (desks durations befores afters handovers finishes : List ℕ)
-    (p : Tabled J m desks durations befores afters handovers finishes) where
+-- A walk along the links of piece i.
+module _ (J : Job) (desks durations afters handovers lasts priors finishes : List ℕ)
+    (p : Tabled J desks durations afters handovers lasts priors finishes) where
   abbrev link : ℕ → Link
-  link = linkIn befores afters handovers
+  link = linkIn (p .befores) afters handovers
 
   -- The pieces of link k.
-  pub pieces-of : (k : ℕ) → k < m → (getD befores k 0 < pieceCount J) × (getD afters k 0 < pieceCount J)
+  pieces-of : (k : ℕ) → k < p .links → (getD (p .befores) k 0 < pieceCount J) × (getD afters k 0 < pieceCount J)
   unfolding linkIn
   pieces-of k h = let f = link-fit J (p .sound) (link k) (p .link-mem k h) in (f .before-one, f .after-one)
 
-  pub known-of : (k : ℕ) → k < m → (getD befores k 0 < 256) × (getD afters k 0 < 256)
-  known-of k h =
-      let w = pieces-of k h in
-      (omega (arith, w .0, p .sound .few-pieces), omega (arith, w .1, p .sound .few-pieces))
+  pub after-small : (k : ℕ) → k < p .links → getD afters k 0 < 256
+  after-small k h = omega (arith, pieces-of k h .1, p .sound .few-pieces)
 
-  -- No sum of a round is out of range.
-  pub early : (table : List ℕ) (k : ℕ) → k < m → Below J table
-      → (getD table (getD befores k 0) 0 ≤ 1000000) × (getD finishes (getD befores k 0) 0 ≤ 1000000)
-  early table k h l =
-      let b = pieces-of k h .0 in (
-        omega (arith, l .each (getD befores k 0) b, raised-most J (p .sound) (p .free) (getD befores k 0) b),
-        omega (arith, p .finished (getD befores k 0) b, finish-most J (p .sound) (p .free) (getD befores k 0) b),
-      )
+  -- No sum on the way is out of range.
+  pub early : (table : List ℕ) (i : ℕ) → i < pieceCount J → Below J table
+      → (getD table i 0 ≤ 1000000) × (getD finishes i 0 ≤ 1000000)
+  early table i h l = (
+    omega (arith, l .each i h, raised-most J (p .sound) (p .free) i h),
+    omega (arith, p .finished i h, finish-most J (p .sound) (p .free) i h),
+  )
 
-  pub record Rising (start table : List ℕ) (changed : Bool) (k : ℕ) : Type 0 where
-    pub low : Below J table
-    pub grown : (i : ℕ) → i < pieceCount J → getD start i 0 ≤ getD table i 0
-    pub granted : (j : ℕ) → j < k → asks J start (link j) ≤ getD table (link j .after) 0
-    pub same : changed ≡ false → table ≡ start
+  module _ (i : ℕ) (one : i < pieceCount J) where
+    -- The links of i from `bound` on have been looked at.
+    pub record Rising (start table : List ℕ) (at bound : ℕ) : Type 0 where
+      pub walk : OnChain (p .befores) i (p .links) at bound
+      pub low : Below J table
+      pub grown : (j : ℕ) → j < pieceCount J → getD start j 0 ≤ getD table j 0
+      pub granted : (k : ℕ) → k < p .links → getD (p .befores) k 0 ≡ i → bound ≤ k
+          → asks J start (link k) ≤ getD table (link k .after) 0
 
-  pub rising-none : (start : List ℕ) → Below J start → Rising start start false 0
-  rising-none start h = record {
-    low = h;
-    grown = λ i l. omega arith;
-    granted = λ j l. absurd (omega arith);
-    same = λ e. refl;
-  }
-
-  -- What the code works out for link k.
-  pub code-asks : (table : List ℕ) (k : ℕ) → k < m
-      → leaves (eqb (getD desks (getD befores k 0) 0) (getD desks (getD afters k 0) 0)) (getD table (getD befores k 0) 0)
-      (getD durations (getD befores k 0) 0) (getD finishes (getD befores k 0) 0) (getD handovers k 0)
-      ≡ asks J table (link k)
-  unfolding asks linkIn
-  code-asks table k h =
-      let f = link-fit J (p .sound) (link k) (p .link-mem k h) in
-      rw (
-        p .desk-is (getD befores k 0) (f .before-one),
-        p .desk-is (getD afters k 0) (f .after-one),
-        p .duration-is (getD befores k 0) (f .before-one),
-        p .finished (getD befores k 0) (f .before-one),
-      )
-
-  module _ (start table : List ℕ) (changed : Bool) (k : ℕ) (g : Rising start table changed k) (h : k < m) where
-    ends : (link k .before < pieceCount J) × (link k .after < pieceCount J)
-    ends = let f = link-fit J (p .sound) (link k) (p .link-mem k h) in (f .before-one, f .after-one)
-
-    grows : asks J start (link k) ≤ asks J table (link k)
-    grows = asks-grow J (p .sound) (p .free) start table (link k) (g .grown (link k .before) (ends .0))
-
-    lower : asks J table (link k) ≤ raised J (link k .after)
-    lower = asks-low J (p .sound) (p .free) table (link k) (p .link-mem k h) (g .low .each (link k .before) (ends .0))
-
-    pub rising-keep : asks J table (link k) ≤ getD table (link k .after) 0 → Rising start table changed (k + 1)
-    rising-keep l = record {
-      low = g .low;
-      grown = g .grown;
-      granted = λ j i.
-          by-le k j
-          (λ z. let e : j ≡ k = omega arith in rw e (omega (arith, grows)))
-          (λ z. g .granted j z);
-      same = g .same;
+    pub rising-none : (start : List ℕ) → Below J start → Rising start start (getD lasts i 0) (p .links)
+    rising-none start h = record {
+      walk = chain-start (p .befores) (p .links) lasts priors (p .chained) i (omega (arith, p .sound .few-pieces));
+      low = h;
+      grown = λ j l. omega arith;
+      granted = λ k h e l. absurd (omega arith);
     }
 
-    pub rising-more : (v : ℕ) → v ≡ asks J table (link k) → getD table (link k .after) 0 < v
-        → Rising start (set table (link k .after) v) true (k + 1)
-    rising-more v e l =
-        let a : ℕ = link k .after in
-        let few : a < 256 = omega (arith, ends .1, p .sound .few-pieces) in
-        let here : getD (set table a v) a 0 ≡ v = getD-set-same table a v 0 (omega (arith, g .low .sized)) in
-        let up : (i : ℕ) → getD table i 0 ≤ getD (set table a v) i 0 =
-        λ i. by-eq i a (λ q. rw q (omega arith)) (λ q. omega (arith, getD-set-other table a i v 0 q)) in
-        record {
-          low = record {
-            sized = length-set table a v ∙ g .low .sized;
-            each = λ i h2.
-                by-eq i a
-                (λ q. rw q (omega (arith, lower)))
-                (λ q. omega (arith, getD-set-other table a i v 0 q, g .low .each i h2));
-          };
-          grown = λ i h2. omega (arith, g .grown i h2, up i);
-          granted = λ j i.
-              by-le k j
-              (λ z. let q : j ≡ k = omega arith in rw q (omega (arith, grows)))
-              (λ z. omega (arith, g .granted j z, up (link j .after)));
-          same = λ q. true-or-false q;
-        }
+    pub rising-most : (start table : List ℕ) (at bound : ℕ) → Rising start table at bound → at ≤ 1024
+    rising-most start table at bound g =
+        omega (arith, on-most (p .befores) (p .links) lasts priors (p .chained) i at bound (g .walk), p .few)
 
-  pub rising-end : (start table : List ℕ) (changed : Bool) (k : ℕ) → Rising start table changed k → m ≤ k
-      → Risen J start table changed
-  rising-end start table changed k g h = record {
-    low = g .low;
-    grown = g .grown;
-    granted = λ l i. let w = p .mem-link l i in rw (w .2) (g .granted (w .0) (omega (arith, w .1)));
-    same = g .same;
-  }
+    -- At link k.
+    module _ (start table : List ℕ) (at bound : ℕ) (g : Rising start table at bound) (on : at ≡ 0 → ⊥) where
+      abbrev k : ℕ
+      k = at - 1
 
--- ROUNDS: after r of them each piece that fewer than r lead to has its raised ready moment.
-module _ (J : Job) (sound : Sound J) (free : ringPiece J ≡ none) where
-  pub record Settled (table : List ℕ) (r : ℕ) : Type 0 where
+      here : (k < p .links) × (getD (p .befores) k 0 ≡ i)
+      here = on-link (p .befores) (p .links) lasts priors (p .chained) i at bound (g .walk) on
+
+      pub rising-place : k < 1024
+      rising-place = omega (arith, here .0, p .few)
+
+      pub rising-after : getD afters k 0 < 256
+      rising-after = after-small k (here .0)
+
+      pub rising-falls : getD priors k 0 < at
+      rising-falls = on-falls (p .befores) (p .links) lasts priors (p .chained) i at bound (g .walk) on
+
+      -- What the code works out for it.
+      pub code-asks : leaves (eqb (getD desks i 0) (getD desks (getD afters k 0) 0)) (getD table i 0) (getD durations i 0)
+          (getD finishes i 0) (getD handovers k 0)
+          ≡ asks J table (link k)
+      unfolding asks linkIn
+      code-asks =
+          rw (
+            here .1,
+            p .desk-is i one,
+            p .desk-is (getD afters k 0) (pieces-of k (here .0) .1),
+            p .duration-is i one,
+            p .finished i one,
+          )
+
+      grows : asks J start (link k) ≤ asks J table (link k)
+      grows = asks-grow J (p .sound) (p .free) start table (link k)
+          (g .grown (link k .before) (link-fit J (p .sound) (link k) (p .link-mem k (here .0)) .before-one))
+
+      lower : asks J table (link k) ≤ raised J (link k .after)
+      lower =
+          let f = link-fit J (p .sound) (link k) (p .link-mem k (here .0)) in
+          asks-low J (p .sound) (p .free) table (link k) (p .link-mem k (here .0)) (g .low .each (link k .before) (f .before-one))
+
+      pub rising-more : (v new : ℕ) → v ≡ asks J table (link k) → new ≡ max (getD table (getD afters k 0) 0) v
+          → Rising start (set table (getD afters k 0) new) (getD priors k 0) k
+      unfolding linkIn
+      rising-more v new e is =
+          let a : ℕ = getD afters k 0 in
+          let at-a : getD (set table a new) a 0 ≡ new = getD-set-same table a new 0 (omega (arith, g .low .sized, rising-after)) in
+          let up : (j : ℕ) → getD table j 0 ≤ getD (set table a new) j 0 =
+          λ j. by-eq j a (λ q. rw q (omega arith)) (λ q. omega (arith, getD-set-other table a j new 0 q)) in
+          record {
+            walk = on-next (p .befores) (p .links) lasts priors (p .chained) i at bound (g .walk) on;
+            low = record {
+              sized = length-set table a new ∙ g .low .sized;
+              each = λ j h.
+                  by-eq j a
+                  (λ q. rw q (omega (arith, lower, g .low .each a (pieces-of k (here .0) .1))))
+                  (λ q. omega (arith, getD-set-other table a j new 0 q, g .low .each j h));
+            };
+            grown = λ j h. omega (arith, g .grown j h, up j);
+            granted = λ j h b l. ⊎-elim
+                (λ q. rw q (omega (arith, grows)))
+                (λ q. omega (arith, g .granted j h b q, up (getD afters j 0)))
+                (on-or-behind (p .befores) (p .links) lasts priors (p .chained) i at bound (g .walk) on j b l);
+          }
+
+    pub rising-end : (start table : List ℕ) (at bound : ℕ) → Rising start table at bound → at ≡ 0 → Risen J i start table
+    unfolding linkIn
+    rising-end start table at bound g z = record {
+      low = g .low;
+      grown = g .grown;
+      granted = λ l m e.
+          let w = p .mem-link l m in
+          let b : getD (p .befores) (w .0) 0 ≡ i = sym (ap (λ (x : Link). x .before) (w .2)) ∙ e in
+          let late = on-last (p .befores) (p .links) lasts priors (p .chained) i at bound (g .walk) z (w .0) b in
+          rw (w .2) (g .granted (w .0) (w .1) b late);
+    }
+
+-- PIECE BY PIECE: those that had their turn have their raised ready moments, and what they leave is granted.
+module _ (J : Job) (sound : Sound J) (free : ringPiece J ≡ none) (n m : ℕ) (befores afters handovers order : List ℕ)
+    (count : pieceCount J ≡ n) (ordered : InOrder n m befores afters order)
+    (mem-link : (l : Link) → Mem l (J .links) → (k : ℕ) × (k < m) × (l ≡ linkIn befores afters handovers k)) where
+  pub record Settled (table : List ℕ) (p : ℕ) : Type 0 where
     pub low : Below J table
     pub release : (i : ℕ) → i < pieceCount J → piece J i .release ≤ getD table i 0
-    pub settled : (i : ℕ) → i < pieceCount J → ahead J sound free i < r → raised J i ≤ getD table i 0
+    pub settled : (q : ℕ) → q < p → q < n → raised J (getD order q 0) ≤ getD table (getD order q 0) 0
+    pub granted : (q : ℕ) → q < p → q < n → (l : Link) → Mem l (J .links) → l .before ≡ getD order q 0
+        → asks J table l ≤ getD table (l .after) 0
 
-  pub settled-none : (n : ℕ) (releases table : List ℕ) → pieceCount J ≡ n
-      → ((i : ℕ) → i < n → piece J i .release ≡ getD releases i 0) → Released n releases table → Settled table 0
-  settled-none n releases table c same h = record {
+  pub settled-none : (releases table : List ℕ) → ((i : ℕ) → i < n → piece J i .release ≡ getD releases i 0)
+      → Released n releases table → Settled table 0
+  settled-none releases table same h = record {
     low = record {
       sized = h .sized;
       each = λ i l.
           omega (
             arith,
-            h .each i (omega arith),
-            same i (omega arith),
+            h .each i (omega (arith, count)),
+            same i (omega (arith, count)),
             ready-release J i,
             raised-ready J sound free i,
           );
     };
-    release = λ i l. omega (arith, h .each i (omega arith), same i (omega arith));
-    settled = λ i l k. absurd (omega arith);
+    release = λ i l. omega (arith, h .each i (omega (arith, count)), same i (omega (arith, count)));
+    settled = λ q l. absurd (omega arith);
+    granted = λ q l. absurd (omega arith);
   }
 
-  module _ (start table : List ℕ) (changed : Bool) (r : ℕ) (g : Settled start r) (h : Risen J start table changed) where
-    pub settled-more : Settled table (r + 1)
-    settled-more = record {
-      low = h .low;
-      release = λ i l. omega (arith, g .release i l, h .grown i l);
-      settled = λ i l k.
-          enough J sound free start i (getD table i 0) l (omega (arith, g .release i l, h .grown i l))
-          (λ x m e. let q : getD table (x .after) 0 ≡ getD table i 0 = ap (λ (j : ℕ). getD table j 0) e in
-          omega (arith, h .granted x m))
-          (λ x m e o.
-          let q : ahead J sound free (x .after) ≡ ahead J sound free i = ap (ahead J sound free) e in
-          g .settled (x .before) (link-fit J sound x m .before-one)
-          (omega (arith, ahead-falls J sound free x m)));
-    }
+  -- The place of a piece before stands earlier.
+  placed : (l : Link) → Mem l (J .links) → (p : ℕ) → p < n → l .after ≡ getD order p 0
+      → (q : ℕ) × (q < p) × (q < n) × (l .before ≡ getD order q 0)
+  unfolding linkIn
+  placed l x p h e =
+      let w = mem-link l x in
+      let f = link-fit J sound l x in
+      let s = ordered .everyone (l .before) (omega (arith, f .before-one, count)) in
+      let b : getD order (s .0) 0 ≡ getD befores (w .0) 0 = s .2 ∙ ap (λ (y : Link). y .before) (w .2) in
+      let a : getD order p 0 ≡ getD afters (w .0) 0 = sym e ∙ ap (λ (y : Link). y .after) (w .2) in
+      (s .0, ordered .rises (w .0) (w .1) (s .0) p (s .1) h b a, s .1, sym (s .2))
 
-    pub settled-same : changed ≡ false → HoldsRaised J table
-    settled-same c =
-        let e : table ≡ start = h .same c in
-        record {
-          sized = h .low .sized;
-          each = λ i l.
-              le-antisymm (h .low .each i l)
-              (along-before J sound free {P = λ j. raised J j ≤ getD table j 0}
-              (λ j k prior.
-              enough J sound free start j (getD table j 0) k (omega (arith, g .release j k, h .grown j k))
-              (λ x m q. let z : getD table (x .after) 0 ≡ getD table j 0 = ap (λ (a : ℕ). getD table a 0) q in
-              omega (arith, h .granted x m))
-              (λ x m q o. rw e at (prior x m q)))
-              i l);
-        }
+  module _ (p : ℕ) (on : p < n) (start : List ℕ) (g : Settled start p) where
+    abbrev i : ℕ
+    i = getD order p 0
 
-  pub settled-end : (table : List ℕ) (r : ℕ) → Settled table r → pieceCount J < r → HoldsRaised J table
-  settled-end table r g h = record {
+    pub turn-inside : i < pieceCount J
+    turn-inside = omega (arith, ordered .inside p on, count)
+
+    -- The piece whose turn it is has its raised ready moment.
+    stands : raised J i ≤ getD start i 0
+    stands = enough J sound free start i (getD start i 0) turn-inside (g .release i turn-inside)
+        (λ l x e. let w = placed l x p on e in
+        let q : getD start (l .after) 0 ≡ getD start i 0 = ap (λ (j : ℕ). getD start j 0) e in
+        omega (arith, g .granted (w .0) (w .1) (w .2) l x (w .3)))
+        (λ l x e o. let w = placed l x p on e in
+        rw (w .3) (g .settled (w .0) (w .1) (w .2)))
+
+    module _ (table : List ℕ) (h : Risen J i start table) where
+      -- Of a piece that had its raised ready moment the moment stays.
+      stays : (j : ℕ) → j < pieceCount J → raised J j ≤ getD start j 0 → getD table j 0 ≤ getD start j 0
+      stays j l r = omega (arith, h .low .each j l, r)
+
+      has : (q : ℕ) → q < p + 1 → q < n → raised J (getD order q 0) ≤ getD start (getD order q 0) 0
+      has q l o = by-eq q p (λ e. rw e stands) (λ e. g .settled q (omega (arith, l)) o)
+
+      pub settled-more : Settled table (p + 1)
+      settled-more = record {
+        low = h .low;
+        release = λ j l. omega (arith, g .release j l, h .grown j l);
+        settled = λ q l o. omega (arith, has q l o, h .grown (getD order q 0) (omega (arith, ordered .inside q o, count)));
+        granted = λ q l o x m e.
+            let b = link-fit J sound x m .before-one in
+            let a = link-fit J sound x m .after-one in
+            let same = asks-grow J sound free table start x (stays (x .before) b (rw e (has q l o))) in
+            by-eq q p
+            (λ z. omega (arith, same, h .granted x m (e ∙ ap (λ y. getD order y 0) z)))
+            (λ z. omega (arith, same, g .granted q (omega (arith, l)) o x m e, h .grown (x .after) a));
+      }
+
+  pub settled-end : (table : List ℕ) (p : ℕ) → Settled table p → n ≤ p → HoldsRaised J table
+  settled-end table p g h = record {
     sized = g .low .sized;
-    each = λ i l. le-antisymm (g .low .each i l) (g .settled i l (omega (arith, ahead-few J sound free i)));
+    each = λ i l.
+        let w = ordered .everyone i (omega (arith, count)) in
+        le-antisymm (g .low .each i l) (rw (w .2) at (g .settled (w .0) (omega (arith, w .1)) (w .1)));
   }

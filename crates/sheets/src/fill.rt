@@ -21,6 +21,9 @@ pub fn fill_sheet(
     befores: &[u16; 1024],
     afters: &[u16; 1024],
     handovers: &[u16; 1024],
+    lasts: &[u16; 256],
+    priors: &[u16; 1024],
+    order: &[u16; 256],
     counts: &mut [u16; 256],
     starts: &mut [u32; 256],
     ends: &mut [u32; 256],
@@ -28,8 +31,8 @@ pub fn fill_sheet(
     froms: &mut [u32; 512],
     untils: &mut [u32; 512],
 ) -> Sheet
-    requires { ⌜ Planable n m (jobIn n m (now desks) (now durations) (now releases) (now dues) (now befores) (now afters)
-        (now handovers)) ⌝ }
+    requires { ⌜ Planable n m (now desks) (now durations) (now releases) (now dues) (now befores) (now afters)
+        (now handovers) (now lasts) (now priors) (now order) ⌝ }
     requires { ⌜ RowTables (now counts) (now starts) (now ends) ⌝ }
     requires { ⌜ Tables (now pieces) (now froms) (now untils) ⌝ }
     ensures { λ r. ⌜ SheetOf (jobIn n m (now (desks .entry)) (now (durations .entry)) (now (releases .entry))
@@ -49,6 +52,9 @@ pub fn fill_sheet(
         befores,
         afters,
         handovers,
+        lasts,
+        priors,
+        order,
         starts,
         &mut finishes,
         &mut latests,
@@ -66,6 +72,9 @@ pub fn fill_sheet(
         befores,
         afters,
         handovers,
+        lasts,
+        priors,
+        order,
         &finishes,
         &latests,
         counts,

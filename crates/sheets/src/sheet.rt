@@ -43,10 +43,13 @@ fn write_sheet(
     befores: &[u16; 1024],
     afters: &[u16; 1024],
     handovers: &[u16; 1024],
+    lasts: &[u16; 256],
+    priors: &[u16; 1024],
+    order: &[u16; 256],
     buffer: &mut [u8],
 ) -> BlockAnswer
-    requires { ⌜ ToPlan n m (jobIn n m (now desks) (now durations) (now releases) (now dues) (now befores) (now afters)
-        (now handovers)) (length (now buffer)) ⌝ }
+    requires { ⌜ ToPlan n m (now desks) (now durations) (now releases) (now dues) (now befores) (now afters)
+        (now handovers) (now lasts) (now priors) (now order) (length (now buffer)) ⌝ }
     requires { ⌜ desk ≤ 31 ⌝ }
     ensures { λ r. ⌜ ((file : List ℕ) → fileOutcome file ≡ accepted (jobIn n m (now (desks .entry))
         (now (durations .entry)) (now (releases .entry)) (now (dues .entry)) (now (befores .entry)) (now (afters .entry))
@@ -69,6 +72,9 @@ fn write_sheet(
         befores,
         afters,
         handovers,
+        lasts,
+        priors,
+        order,
         &mut counts,
         &mut starts,
         &mut ends,
@@ -101,10 +107,13 @@ fn sheet_accepted(
     befores: &[u16; 1024],
     afters: &[u16; 1024],
     handovers: &[u16; 1024],
+    lasts: &[u16; 256],
+    priors: &[u16; 1024],
+    order: &[u16; 256],
     buffer: &mut [u8],
 ) -> BlockAnswer
-    requires { ⌜ Planable n m (jobIn n m (now desks) (now durations) (now releases) (now dues) (now befores) (now afters)
-        (now handovers)) ⌝ }
+    requires { ⌜ Planable n m (now desks) (now durations) (now releases) (now dues) (now befores) (now afters)
+        (now handovers) (now lasts) (now priors) (now order) ⌝ }
     ensures { λ r. ⌜ ((file : List ℕ) → fileOutcome file ≡ accepted (jobIn n m (now (desks .entry))
         (now (durations .entry)) (now (releases .entry)) (now (dues .entry)) (now (befores .entry)) (now (afters .entry))
         (now (handovers .entry))) → BlockPromise file desk (now (buffer .entry)) r (now (buffer .exit))) ⌝ }
@@ -132,6 +141,9 @@ fn sheet_accepted(
         befores,
         afters,
         handovers,
+        lasts,
+        priors,
+        order,
         buffer,
     )
 }
@@ -148,6 +160,9 @@ pub fn block_sheet(file: &[u8], desk: u8, buffer: &mut [u8]) -> BlockAnswer
     let mut befores = [0u16; 1024];
     let mut afters = [0u16; 1024];
     let mut handovers = [0u16; 1024];
+    let mut lasts = [0u16; 256];
+    let mut priors = [0u16; 1024];
+    let mut order = [0u16; 256];
     let judged = judge_file(
         file,
         &mut desks,
@@ -157,6 +172,9 @@ pub fn block_sheet(file: &[u8], desk: u8, buffer: &mut [u8]) -> BlockAnswer
         &mut befores,
         &mut afters,
         &mut handovers,
+        &mut lasts,
+        &mut priors,
+        &mut order,
     );
     match judged {
         Read::Refused(refusal) => refused(refusal),
@@ -171,6 +189,9 @@ pub fn block_sheet(file: &[u8], desk: u8, buffer: &mut [u8]) -> BlockAnswer
             &befores,
             &afters,
             &handovers,
+            &lasts,
+            &priors,
+            &order,
             buffer,
         ),
     }

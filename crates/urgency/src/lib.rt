@@ -12,6 +12,7 @@ ghost use mathlib.Core.Path.{_≡_};
 ghost use Prim.Native.Nat.{_≤_};
 ghost use lib.ListN.{length};
 ghost use Rattle.rules.specs.Tables.{jobIn};
+ghost use Rattle.links.specs.Chains.{Chained};
 ghost use Rattle.urgency.specs.Plan.{Given, Ranked, Sized, Planned, Begun};
 
 // Fills the tables of the pieces as they are before the first slot.
@@ -40,7 +41,7 @@ fn begin(
     }
 }
 
-// The plan of n pieces and m links, whose keys are known. The keys say all that urgency asks of the dues; the job of the
+// The plan of n pieces and m links, whose keys are known and whose links are chained. The keys say all that urgency asks of the dues; the job of the
 // contract has them, so they are lent too.
 fn plan_by(
     n: usize,
@@ -52,6 +53,8 @@ fn plan_by(
     befores: &[u16; 1024],
     afters: &[u16; 1024],
     handovers: &[u16; 1024],
+    lasts: &[u16; 256],
+    priors: &[u16; 1024],
     keys: &[u64; 256],
     start: &mut [u32; 256],
     finish: &mut [u32; 256],
@@ -61,6 +64,7 @@ fn plan_by(
 ) -> usize
     requires { ⌜ Ranked (jobIn n m (now desks) (now durations) (now releases) (now dues) (now befores) (now afters)
         (now handovers)) n (now keys) ⌝ }
+    requires { ⌜ Chained (now befores) m (now lasts) (now priors) ⌝ }
     requires { ⌜ Sized (now start) (now finish) (now piece) (now from) (now until) ⌝ }
     ensures { λ r. ⌜ Planned (jobIn n m (now (desks .entry)) (now (durations .entry)) (now (releases .entry))
         (now (dues .entry)) (now (befores .entry)) (now (afters .entry)) (now (handovers .entry))) n (now (desks .entry))
@@ -69,8 +73,6 @@ fn plan_by(
     let mut left = [0u32; 256];
     let mut waits = [0u16; 256];
     let mut ready = [0u32; 256];
-    let mut tail = [0u16; 256];
-    let mut prior = [0u16; 1024];
     let mut table = [0u16; 256];
     let mut place = [0u16; 256];
     let mut chosen = [256u16; 32];
@@ -78,7 +80,6 @@ fn plan_by(
     let mut last = [512usize; 32];
     begin(n, durations, releases, &mut left, &mut ready, start, finish);
     links::queue::count_into(afters, m, &mut waits);
-    links::chains::chain_links(befores, m, &mut tail, &mut prior);
     let mut opened = links::queue::place_free(n, &waits, &mut table);
     mark(opened, &table, &mut place);
     let mut runs = 0;
@@ -130,8 +131,8 @@ fn plan_by(
             befores,
             afters,
             handovers,
-            &tail,
-            &prior,
+            lasts,
+            priors,
             &chosen,
             &busy,
             &left,
@@ -156,6 +157,8 @@ pub fn plan(
     befores: &[u16; 1024],
     afters: &[u16; 1024],
     handovers: &[u16; 1024],
+    lasts: &[u16; 256],
+    priors: &[u16; 1024],
     latests: &[i32; 256],
     start: &mut [u32; 256],
     finish: &mut [u32; 256],
@@ -165,6 +168,7 @@ pub fn plan(
 ) -> usize
     requires { ⌜ Given (jobIn n m (now desks) (now durations) (now releases) (now dues) (now befores) (now afters)
         (now handovers)) n (now latests) ⌝ }
+    requires { ⌜ Chained (now befores) m (now lasts) (now priors) ⌝ }
     requires { ⌜ Sized (now start) (now finish) (now piece) (now from) (now until) ⌝ }
     ensures { λ r. ⌜ Planned (jobIn n m (now (desks .entry)) (now (durations .entry)) (now (releases .entry))
         (now (dues .entry)) (now (befores .entry)) (now (afters .entry)) (now (handovers .entry))) n (now (desks .entry))
@@ -182,6 +186,8 @@ pub fn plan(
         befores,
         afters,
         handovers,
+        lasts,
+        priors,
         &keys,
         start,
         finish,

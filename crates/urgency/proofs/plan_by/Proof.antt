@@ -18,8 +18,8 @@ use Rattle.urgency.proofs.plan_by.Statement.{statement}
 use Rattle.urgency.proofs.plan_by.Tie as tie
 
 abbrev Inv-loop : tie.InvT-loop
-Inv-loop n m desks durations releases dues befores afters handovers keys start₀ finish₀ piece₀ from₀ until₀ left₀
-    waits₀ ready₀ tail prior table₀ place₀ chosen₀ busy₀ last₀ opened₀ runs₀ t₀ start finish piece from until left waits
+Inv-loop n m desks durations releases dues befores afters handovers lasts priors keys start₀ finish₀ piece₀ from₀ until₀ left₀
+    waits₀ ready₀ table₀ place₀ chosen₀ busy₀ last₀ opened₀ runs₀ t₀ start finish piece from until left waits
     ready table place chosen busy last opened runs t =
     let T : Tables = record {
       pieces = n;
@@ -36,8 +36,8 @@ Inv-loop n m desks durations releases dues befores afters handovers keys start�
     busy
 
 abbrev μ-loop : tie.MeasureT-loop
-μ-loop n m desks durations releases dues befores afters handovers keys start₀ finish₀ piece₀ from₀ until₀ left₀
-    waits₀ ready₀ tail prior table₀ place₀ chosen₀ busy₀ last₀ opened₀ runs₀ t₀ start finish piece from until left waits
+μ-loop n m desks durations releases dues befores afters handovers lasts priors keys start₀ finish₀ piece₀ from₀ until₀ left₀
+    waits₀ ready₀ table₀ place₀ chosen₀ busy₀ last₀ opened₀ runs₀ t₀ start finish piece from until left waits
     ready table place chosen busy last opened runs t =
     let T : Tables = record {
       pieces = n;
@@ -72,7 +72,7 @@ begin-requires : tie.Need-begin-requires Inv-loop μ-loop
 begin-requires c κs =
     let s = c .before .before .before .before in (
       few (lent s) (s .args .dues .now) (s .pre .0),
-      (refl, refl, s .pre .1 .starts-sized, s .pre .1 .finishes-sized),
+      (refl, refl, s .pre .1 .1 .starts-sized, s .pre .1 .1 .finishes-sized),
     )
 
 count-into-requires : tie.Need-count-into-requires Inv-loop μ-loop
@@ -86,21 +86,9 @@ count-into-requires c κs =
       cleared = λ i h. getD-replicate 256 i 0 0 h;
     }
 
-chain-links-requires : tie.Need-chain-links-requires Inv-loop μ-loop
-chain-links-requires c κs =
-    let s = c .before .before .before .before .before .before .before .before .before in
-    let k = named (lent s) (s .args .dues .now) (s .pre .0) in
-    record {
-      last-sized = refl;
-      prior-sized = refl;
-      few = k .few;
-      small = k .before-one;
-      cleared = λ i h. getD-replicate 256 i 0 0 h;
-    }
-
 place-free-requires : tie.Need-place-free-requires Inv-loop μ-loop
 place-free-requires c κs =
-    let counted = c .before .before .before .before .before in
+    let counted = c .before .before in
     let s = counted .before .before .before .before .before .before .before in
     (few (lent s) (s .args .dues .now) (s .pre .0), counted .count-into .ensures .sized, refl)
 
@@ -109,10 +97,10 @@ abbrev placed : tie.After-mark Inv-loop μ-loop → tie.After-place-free Inv-loo
 placed c = c .before .before .before
 
 abbrev counted : tie.After-place-free Inv-loop μ-loop → tie.After-count-into Inv-loop μ-loop
-counted c = c .before .before .before .before .before .before
+counted c = c .before .before .before
 
 abbrev entry : tie.After-place-free Inv-loop μ-loop → tie.Start Inv-loop μ-loop
-entry c = c .before .before .before .before .before .before .before .before .before .before .before .before .before
+entry c = c .before .before .before .before .before .before .before .before .before .before
 
 mark-requires : tie.Need-mark-requires Inv-loop μ-loop
 mark-requires c κs =
@@ -131,7 +119,7 @@ loop-holds c =
           (k .before .before .begin .ensures)
           (k .count-into .ensures .sized) (k .count-into .ensures .counts) refl
           (λ d h. getD-replicate 32 d 512 0 h)
-          (s .pre .1 .pieces-sized) (s .pre .1 .froms-sized) (s .pre .1 .untils-sized);
+          (s .pre .1 .1 .pieces-sized) (s .pre .1 .1 .froms-sized) (s .pre .1 .1 .untils-sized);
       opening = opening-first (s .args .n) (f .place-free .result) (f .place-free .last .1 .1 .0) (c .mark .last .1 .1 .0)
           (k .before .before .begin .last .1 .1 .1 .0) (k .count-into .last .1 .1 .0)
           (all-unfinished (lent s) (s .args .dues .now) (s .pre .0) (k .before .before .begin .last .1 .1 .1 .0) _ _ _
@@ -185,7 +173,7 @@ work-all-requires c κs = c .before .before .before .before .before .before .bef
 
 -- The way back from the last places of a turn.
 abbrev noted : tie.After-hand-all Inv-loop μ-loop → tie.After-note-all Inv-loop μ-loop
-noted c = c .before .before .before .before .before .before .before .before .before .before
+noted c = c .before .before .before .before .before .before .before .before
 
 abbrev worked : tie.After-note-all Inv-loop μ-loop → tie.After-work-all Inv-loop μ-loop
 worked c = c .before .before .before .before .before .before .before
@@ -202,14 +190,14 @@ note-all-requires c κs =
 
 hand-all-requires : tie.Need-hand-all-requires Inv-loop μ-loop
 hand-all-requires c κs =
-    let w = worked (c .before .before .before .before .before .before .before .before .before) in
+    let w = worked (c .before .before .before .before .before .before .before) in
     let d = at-decision w in
     let s = first d in
     let l = turn d .loop in
     let r = d .decide .result in (
       named (lent s) (s .args .dues .now) (s .pre .0),
       (
-        placed (turn d .before) .before .before .before .chain-links .ensures,
+        s .pre .1 .0,
         (
           (
             omega (
@@ -276,7 +264,6 @@ plan-by-spec =
     μ-loop
     begin-requires
     count-into-requires
-    chain-links-requires
     place-free-requires
     mark-requires
     loop-holds

@@ -11,7 +11,7 @@ chain-links-requires c κs = c .before .before .pre .chains
 
 count-into-requires : tie.Need-count-into-requires
 count-into-requires c κs =
-    let p = c .before .before .before .before .pre .check in
+    let p = c .before .before .before .before .pre in
     record {
       few = p .ties .few-links;
       small = λ k l. omega (arith, p .ties .before-one k l, p .ties .after-one k l, p .ties .few-pieces);
@@ -21,14 +21,14 @@ count-into-requires c κs =
 
 place-free-requires : tie.Need-place-free-requires
 place-free-requires c κs =
-    let p = c .before .before .before .before .before .before .before .pre .check in
+    let p = c .before .before .before .before .before .before .before .pre in
     (p .ties .few-pieces, c .before .before .count-into .ensures .sized, p .sized)
 
 pass-all-requires : tie.Need-pass-all-requires
 pass-all-requires c κs =
     let b = c .before .before .before .before .before .before .before .before .before in
     record {
-      net = net-of (b .before .before .before .pre .check .ties) (b .chain-links .ensures);
+      net = net-of (b .before .before .before .pre .ties) (b .chain-links .ensures);
       queue = c .before .before .before .before .place-free .ensures;
     }
 
@@ -36,7 +36,7 @@ returns : tie.Need-returns
 returns c =
     let free = c .before .before .before .before .before in
     let chained = free .before .before .before .before .before in
-    let ties = chained .before .before .before .pre .check .ties in
+    let ties = chained .before .before .before .pre .ties in
     let counted = free .before .before .before .count-into .ensures in
     pieces-placed _ _ _ _ ties _ _ _ (free .place-free .ensures) counted _ _ _
     (c .pass-all .ensures (net-of ties (chained .chain-links .ensures)) (free .place-free .ensures)) _ _

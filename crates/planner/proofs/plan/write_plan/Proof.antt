@@ -43,11 +43,11 @@ worst-lateness-requires c κs =
     let F = c .before .before .before .before .before .before .before .before .before .before .before .before .before .before .before .before .before .before .finish-plan .ensures in
     (few-pieces F, bounded-here F)
 
-cast-t41 : tie.Need-cast-t41
-cast-t41 c = search needs
+cast-t44 : tie.Need-cast-t44
+cast-t44 c = search needs
 
-cast-t42 : tie.Need-cast-t42
-cast-t42 c = search needs
+cast-t45 : tie.Need-cast-t45
+cast-t45 c = search needs
 
 same-length : tie.Need-same-length
 same-length c = search needs
@@ -75,7 +75,7 @@ write-plan-spec =
     put-runs-requires
     largest-finish-requires
     worst-lateness-requires
-    cast-t41
-    cast-t42
+    cast-t44
+    cast-t45
     same-length
     returns)

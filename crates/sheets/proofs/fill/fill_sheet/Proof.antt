@@ -27,16 +27,19 @@ planned-sheet-requires c κs =
     let F = plan .finish-plan .ensures in (
       (_, laid-here _ _ _ _ _ _ _ _ _ F),
       (
-        record {
-          counts-sized = s .pre .1 .0 .counts-sized;
-          starts-sized = F .sized .starts-sized;
-          ends-sized = s .pre .1 .0 .ends-sized;
-        },
-        record {
-          pieces-sized = F .sized .pieces-sized;
-          froms-sized = F .sized .froms-sized;
-          untils-sized = F .sized .untils-sized;
-        },
+        s .pre .0 .walkable,
+        (
+          record {
+            counts-sized = s .pre .1 .0 .counts-sized;
+            starts-sized = F .sized .starts-sized;
+            ends-sized = s .pre .1 .0 .ends-sized;
+          },
+          record {
+            pieces-sized = F .sized .pieces-sized;
+            froms-sized = F .sized .froms-sized;
+            untils-sized = F .sized .untils-sized;
+          },
+        ),
       ),
     )
 

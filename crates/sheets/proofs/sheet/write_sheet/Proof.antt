@@ -41,8 +41,8 @@ put-runs-requires c κs =
       room-behind _ _ _ _ _ _ _ _ _ filled (s .args .buffer .now) _ (s .pre .0 .enough) (c .before .before .before .before .before .before .put-blocks .ensures),
     )
 
-cast-t39 : tie.Need-cast-t39
-cast-t39 c =
+cast-t42 : tie.Need-cast-t42
+cast-t42 c =
     let f = c .before .before .before .before .before .before .before .before .before .before .before .before .before .before in
     let filled = f .fill-sheet .ensures in
     omega (
@@ -52,8 +52,8 @@ cast-t39 c =
       f .before .before .before .before .before .before .before .before .pre .0 .planable .few-pieces,
     )
 
-cast-t40 : tie.Need-cast-t40
-cast-t40 c =
+cast-t43 : tie.Need-cast-t43
+cast-t43 c =
     let f = c .before .before .before .before .before .before .before .before .before .before .before .before .before .before in
     let filled = f .fill-sheet .ensures in
     omega (
@@ -86,7 +86,7 @@ write-sheet-spec =
     put-blocks-requires
     mul-put-runs
     put-runs-requires
-    cast-t39
-    cast-t40
+    cast-t42
+    cast-t43
     same-length
     returns)

@@ -3,9 +3,9 @@ use native.Mathlib.Omega.{arith}
 use borrow.Author.Needs.{needs}
 use mir.Syntax.{w32}
 use mir.ValLaws.{toZ-pos}
-use Rattle.links.specs.Moments.{takesOffIn}
-use Rattle.links.proofs.moments.takes_off.Statement.{statement}
-use Rattle.links.proofs.moments.takes_off.Tie as tie
+use Rattle.moments.specs.Moments.{takesOffIn}
+use Rattle.moments.proofs.takes_off.Statement.{statement}
+use Rattle.moments.proofs.takes_off.Tie as tie
 
 mul-result : tie.Need-mul-result
 mul-result c = search needs

@@ -1,0 +1,3 @@
+-- Laws of latest moments in tables.
+pub mod LeastLaws
+pub mod TimedLaws

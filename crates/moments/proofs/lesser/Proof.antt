@@ -1,0 +1,20 @@
+-- `lesser` meets its contract: the test is the definition's.
+use mir.Facts.{toZ-ofZ}
+use Rattle.rules.specs.Words.{when, lesserZ}
+use Rattle.moments.proofs.lesser.Statement.{statement}
+use Rattle.moments.proofs.lesser.Tie as tie
+
+returns : tie.Need-returns
+unfolding lesserZ
+returns c =
+    let t = simp (toZ-ofZ (c .before .fits .a), toZ-ofZ (c .before .fits .b)) at (c .if1 .taken) in
+    rw (toZ-ofZ (c .before .fits .b), t, when)
+
+returns-2 : tie.Need-returns-2
+unfolding lesserZ
+returns-2 c =
+    let t = simp (toZ-ofZ (c .before .fits .a), toZ-ofZ (c .before .fits .b)) at (c .if1 .left) in
+    rw (toZ-ofZ (c .before .fits .a), t, when)
+
+pub lesser-spec : {M : Type 1} → statement M
+lesser-spec = tie.close (tie.spec returns returns-2)

@@ -1,0 +1,88 @@
+// Latest moments of all pieces, as signed numbers: from the last pieces back, in the order that the ring check found. When
+// a piece has its turn, the moments of all pieces after it are known, so each link is looked at once.
+ghost use Prim.Native.Nat.{_<_, _≤_};
+ghost use mathlib.Core.Path.{_≡_};
+ghost use lib.IntN.{pos, _-ℤ_};
+ghost use mir.Syntax.{w32};
+ghost use mir.Val.{SFits};
+ghost use lib.ListN.{getD};
+ghost use Rattle.rules.specs.Words.{lesserZ};
+ghost use Rattle.moments.specs.Moments.{takesOffIn, leftBy, ToLeave, ToTimeOne, TimedOne, ToTime, Timed};
+
+// What link k takes off the latest moment of the piece before it: the follower's duration.
+fn takes_off(k: usize, durations: &[u16; 256], afters: &[u16; 1024]) -> i32
+    requires { ⌜ (k < 1024) × (getD (now afters) k 0 < 256) × (takesOffIn (now durations) (now afters) k ≤ 960) ⌝ }
+    ensures { λ r. ⌜ r ≡ pos (takesOffIn (now (durations .entry)) (now (afters .entry)) k) ⌝ }
+{
+    durations[afters[k] as usize] as i32
+}
+
+// A moment less what is taken off it. It may lie below zero.
+fn less(moment: i32, off: i32) -> i32
+    requires { ⌜ SFits w32 (moment -ℤ off) ⌝ }
+    ensures { λ r. ⌜ r ≡ moment -ℤ off ⌝ }
+{
+    moment - off
+}
+
+// What link k leaves the piece before it.
+fn left_by(k: usize, durations: &[u16; 256], afters: &[u16; 1024], moments: &[i32; 256]) -> i32
+    requires { ⌜ ToLeave k (now durations) (now afters) (now moments) ⌝ }
+    ensures { λ r. ⌜ r ≡ leftBy (now (durations .entry)) (now (afters .entry)) (now (moments .entry)) k ⌝ }
+{
+    less(moments[afters[k] as usize], takes_off(k, durations, afters))
+}
+
+fn lesser(a: i32, b: i32) -> i32
+    ensures { λ r. ⌜ r ≡ lesserZ a b ⌝ }
+{
+    if b < a { b } else { a }
+}
+
+// The latest moment of piece i, where those of the pieces after it are known: the least of its own due and of what the
+// links from it leave.
+fn piece_moment(
+    i: usize,
+    durations: &[u16; 256],
+    dues: &[u32; 256],
+    afters: &[u16; 1024],
+    lasts: &[u16; 256],
+    priors: &[u16; 1024],
+    moments: &[i32; 256],
+) -> i32
+    requires { ⌜ ToTimeOne i (now durations) (now dues) (now afters) (now lasts) (now priors) (now moments) ⌝ }
+    ensures { λ r. ⌜ TimedOne i (now (durations .entry)) (now (dues .entry)) (now (afters .entry)) (now (lasts .entry))
+        (now (priors .entry)) (now (moments .entry)) r ⌝ }
+{
+    let mut least = dues[i] as i32;
+    let mut at = lasts[i] as usize;
+    while at != 0 {
+        let k = at - 1;
+        least = lesser(least, left_by(k, durations, afters, moments));
+        at = priors[k] as usize;
+    }
+    least
+}
+
+// The latest moment of each piece.
+pub fn latest_moments(
+    pieces: usize,
+    durations: &[u16; 256],
+    dues: &[u32; 256],
+    afters: &[u16; 1024],
+    lasts: &[u16; 256],
+    priors: &[u16; 1024],
+    order: &[u16; 256],
+    moments: &mut [i32; 256],
+)
+    requires { ⌜ ToTime pieces (now durations) (now dues) (now afters) (now lasts) (now priors) (now order) (now moments) ⌝ }
+    ensures { λ r. ⌜ Timed pieces (now (durations .entry)) (now (dues .entry)) (now (afters .entry)) (now (lasts .entry))
+        (now (priors .entry)) (now (order .entry)) (now (moments .exit)) ⌝ }
+{
+    let mut p = pieces;
+    while 0 < p {
+        p -= 1;
+        let i = order[p] as usize;
+        moments[i] = piece_moment(i, durations, dues, afters, lasts, priors, moments);
+    }
+}
