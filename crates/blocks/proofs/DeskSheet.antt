@@ -6,13 +6,12 @@ use mathlib.Core.Option.{none}
 use mathlib.Core.Path.{_≡_, refl, sym, ap, ap₂, _∙_, subst}
 use native.Mathlib.Omega.{arith}
 use lib.Dec.{eqb}
-use lib.IntN.{ℤ, pos, negsuc, _-ℤ_, natAbs}
+use lib.IntN.{ℤ, pos, _-ℤ_}
 use lib.ListN.{length, getD, take, length-map}
 use lib.Seq.{length-take-le}
 use Rattle.rules.specs.Words.{when, keep, row, below, worstOf}
 use Rattle.rules.specs.Job.{Job, pieceCount, desk, deskPieces}
 use Rattle.rules.specs.Hours.{isOpen, nextOpen, openEnd}
-use Rattle.rules.specs.Moments.{latest}
 use Rattle.rules.specs.Rings.{linked}
 use Rattle.rules.specs.Urgency.{horizon}
 use Rattle.rules.specs.Runs.{runsFrom}
@@ -22,8 +21,7 @@ use Rattle.rules.specs.BlockSheet.{blocks, blockRuns, blockNumbers}
 use Rattle.laws.proofs.Words.{map-same, mem-row, mem-below, mem-map, below-mem, keep-same}
 use Rattle.laws.proofs.Joined.{map-twice, mem-of-map}
 use Rattle.laws.proofs.Sound.{place-mem}
-use Rattle.laws.proofs.Signed.{up, dn, _≼_, below-zero, below-zero-is}
-use Rattle.laws.proofs.Latest.{latest-least, latest-most}
+use Rattle.laws.proofs.Latest.{latest-near}
 use Rattle.laws.proofs.Hours.{always-open}
 use Rattle.laws.proofs.Slots.{mem-deskPieces}
 use Rattle.laws.proofs.Finishing.{horizon-most}
@@ -46,12 +44,6 @@ use Rattle.blocks.specs.Ordered.{onDesk, deskList, Lists}
 use Rattle.blocks.specs.Rows.{rowOf, lateIn, Dated}
 use Rattle.blocks.specs.Sheet.{Entered, sheetRow}
 use Rattle.blocks.proofs.Sorting.{desk-mem}
-
--- A latest moment is near.
-near : (z : ℤ) → below-zero 244800 ≼ z → z ≼ pos 40000 → natAbs z ≤ 100000000
-unfolding up dn
-near (pos k) l h = omega arith
-near (negsuc k) l h = omega (arith, below-zero-is 244800)
 
 module _ (J : Job) (n m : ℕ) (desks durations befores afters ready : List ℕ) (latests : List ℤ)
     (d : ℕ) (e : Entered J d n m desks durations befores afters ready latests) where
@@ -234,7 +226,7 @@ module _ (J : Job) (n m : ℕ) (desks durations befores afters ready : List ℕ)
             let i : ℕ = getD pieces j 0 in
             let z : i < pieceCount J = inside i (run-known j h .0) in
             rw (← (e .latest-is i (run-known j h .0)))
-            (near (latest J i) (latest-least J (e .sound) (e .free) i z) (latest-most J (e .sound) (e .free) i z));
+            (omega (arith, latest-near J (e .sound) (e .free) i z .abs-most));
       }
 
       -- The worst lateness over the runs is the sheet's.

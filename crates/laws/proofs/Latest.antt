@@ -6,7 +6,8 @@ use mathlib.Core.List.{List, [], _∷_, map, List·Memᴰ as Mem, List·Memᴰ·
 use mathlib.Core.Option.{none}
 use mathlib.Core.Path.{_≡_, refl, sym, ap, _∙_}
 use native.Mathlib.Omega.{arith}
-use lib.IntN.{ℤ, pos, _-ℤ_}
+use lib.IntN.{ℤ, pos, negsuc, _-ℤ_, natAbs}
+use lib.Signed.{mag}
 use Rattle.rules.specs.Words.{leastZ}
 use Rattle.rules.specs.Job.{Job, pieceCount, piece, linksFrom}
 use Rattle.rules.specs.Moments.{takesOff, latestWithin, latest, sooner}
@@ -62,6 +63,21 @@ takes-off-least J sound l m = fits J sound (l .after) (link-fit J sound l m .aft
 pub takes-off-most : (J : Job) → Sound J → (l : Link) → Mem l (J .links) → takesOff J l ≤ 960
 unfolding takesOff
 takes-off-most J sound l m = fits J sound (l .after) (link-fit J sound l m .after-one) .duration-most
+
+-- A signed number in the range of latest moments, in every word in which code asks for a range.
+pub record Near (z : ℤ) : Type 0 where
+  pub up-most : up z ≤ 40000
+  pub dn-most : dn z ≤ 244800
+  pub abs-most : natAbs z ≤ 244800
+  pub mag-most : mag z ≤ 244800
+
+near : (z : ℤ) → below-zero 244800 ≼ z → z ≼ pos 40000 → Near z
+unfolding up dn
+near (pos k) low high =
+    record { up-most = omega arith; dn-most = omega arith; abs-most = omega arith; mag-most = omega arith }
+near (negsuc k) low high =
+    let l : suc k ≤ 244800 = omega (arith, below-zero-is 244800) in
+    record { up-most = omega arith; dn-most = l; abs-most = l; mag-most = omega arith }
 
 module _ (J : Job) (sound : Sound J) (free : ringPiece J ≡ none) where
   -- A link from i goes to a piece that leads to fewer.
@@ -143,6 +159,9 @@ module _ (J : Job) (sound : Sound J) (free : ringPiece J ≡ none) where
   pub latest-most : (i : ℕ) → i < pieceCount J → latest J i ≼ pos 40000
   unfolding up dn
   latest-most i h = omega (arith, latest-due i h, fits J sound i h .due-most)
+
+  pub latest-near : (i : ℕ) → i < pieceCount J → Near (latest J i)
+  latest-near i h = near (latest J i) (latest-least i h) (latest-most i h)
 
   -- A piece before is sooner than the piece after.
   pub before-is-sooner : (l : Link) → Mem l (J .links) → sooner J (l .before) (l .after) ≡ true

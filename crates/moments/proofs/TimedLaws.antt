@@ -6,15 +6,15 @@ use mathlib.Core.Path.{_≡_, sym, ap, subst, _∙_}
 use native.Mathlib.Omega.{arith}
 use borrow.Author.Tests.{eqb-true, eqb-false}
 use lib.Dec.{eqb}
-use lib.IntN.{ℤ, pos, negsuc, _-ℤ_, natAbs}
+use lib.IntN.{ℤ, pos, _-ℤ_}
 use lib.ListN.{length, getD, set}
 use lib.Seq.{getD-set-same, getD-set-other}
 use Rattle.rules.specs.Job.{Job, pieceCount, piece}
 use Rattle.rules.specs.Moments.{takesOff, latest}
 use Rattle.rules.specs.Tables.{pieceIn, linkIn, noLink}
 use Rattle.rules.specs.declared.Link.{Link}
-use Rattle.laws.proofs.Latest.{asked-most, takes-off-most, latest-equation, latest-due, latest-after, latest-least, latest-most}
-use Rattle.laws.proofs.Signed.{up, dn, _≼_, same, below-zero, below-zero-is}
+use Rattle.laws.proofs.Latest.{asked-most, takes-off-most, latest-equation, latest-due, latest-after, latest-near}
+use Rattle.laws.proofs.Signed.{_≼_, same}
 use Rattle.laws.proofs.Sound.{fits, mem-place, place-mem, from-link}
 use Rattle.laws.proofs.Words.{by-test}
 use Rattle.links.specs.Chains.{placesWith}
@@ -24,12 +24,6 @@ use Rattle.links.proofs.ChainLaws.{places-key, key-places}
 use Rattle.links.proofs.LinkLaws.{job-pieces, job-links, job-piece, job-link, job-ties}
 use Rattle.moments.specs.Moments.{takesOffIn, leftBy, leastLeft, ToTimeOne, TimedOne, Timeable, timedJob}
 use Rattle.moments.proofs.LeastLaws.{left-start, left-each, left-most}
-
--- A latest moment is near zero.
-near-zero : (z : ℤ) → below-zero 244800 ≼ z → z ≼ pos 40000 → natAbs z ≤ 500000
-unfolding up dn
-near-zero (pos k) low high = omega arith
-near-zero (negsuc k) low high = omega (arith, below-zero-is 244800)
 
 module _ (n : ℕ) (durations dues afters lasts priors order : List ℕ)
     (T : Timeable n durations dues afters lasts priors order) where
@@ -117,9 +111,8 @@ module _ (n : ℕ) (durations dues afters lasts priors order : List ℕ)
         here = omega (arith, ties .few-links);
         after-one = omega (arith, ties .after-one k l, ties .few-pieces);
         small = rw (← (off-is k l)) (takes-off-most J (T .sound) (linkAt k) (link-there k l));
-        near = rw (follower k l e) (near-zero _
-            (latest-least J (T .sound) (T .free) _ (inside _ (ties .after-one k l)))
-            (latest-most J (T .sound) (T .free) _ (inside _ (ties .after-one k l))));
+        near = rw (follower k l e)
+            (omega (arith, latest-near J (T .sound) (T .free) _ (inside _ (ties .after-one k l)) .abs-most));
       };
     }
 

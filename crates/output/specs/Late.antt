@@ -8,7 +8,7 @@ use lib.Signed.{mag}
 -- Finishes and latest moments are far from the ends of 32 bits.
 pub record Bounded (finish : ℕ) (latest : ℤ) : Type 0 where
   pub early : finish ≤ 408160
-  pub near : mag latest ≤ 244800
+  pub near : mag latest ≤ 500000
 
 abbrev pub latenessOf : ℕ → ℤ → ℤ
 latenessOf finish latest = pos finish -ℤ latest

@@ -7,15 +7,13 @@ use mathlib.Core.Path.{_≡_, ap, _∙_}
 use native.Mathlib.Omega.{arith}
 use lib.IntN.{ℤ, pos}
 use lib.ListN.{length, getD}
-use lib.Signed.{mag}
 use Rattle.rules.specs.Job.{Job, pieceCount, refused, accepted}
 use Rattle.rules.specs.Judgement.{fileOutcome}
 use Rattle.rules.specs.declared.Refusal.{Refusal}
 use Rattle.rules.specs.declared.PlanAnswer.{PlanAnswer}
 use Rattle.rules.specs.Rings.{ringPiece}
 use Rattle.rules.specs.Tables.{Sound, jobIn, pieceIn}
-use Rattle.laws.proofs.Signed.{up, dn, _≼_, below-zero, below-zero-is}
-use Rattle.laws.proofs.Latest.{latest-least, latest-most}
+use Rattle.laws.proofs.Latest.{latest-near}
 use Rattle.demands.proofs.Accepting.{accepted-sound, accepted-free}
 use Rattle.demands.proofs.Finishes.{finish-most}
 use Rattle.moments.specs.Moments.{Timeable, ToTime, Timed}
@@ -30,12 +28,6 @@ use Rattle.demands.specs.Promises.{PlanPromise}
 use Rattle.planner.specs.Judged.{JudgesFile, Planable, refusedAnswer}
 use Rattle.planner.specs.Finished.{Finished}
 use Rattle.planner.proofs.PlanLaws.{plan-refused, plan-short}
-
--- A signed number in a range is not far from zero.
-near-zero : (z : ℤ) → below-zero 244800 ≼ z → z ≼ pos 40000 → mag z ≤ 244800
-unfolding up dn
-near-zero (ℤ.pos k) low high = omega arith
-near-zero (ℤ.negsuc k) low high = omega (arith, below-zero-is 244800)
 
 module _ (n m : ℕ) (desks durations releases dues befores afters handovers lasts priors order : List ℕ)
     (P : Planable n m desks durations releases dues befores afters handovers lasts priors order) where
@@ -104,7 +96,7 @@ module _ {J : Job} {n : ℕ} {desks starts finishes : List ℕ} {latests : List 
       let l : i < pieceCount J = omega (arith, F .pieces-are) in
       rw (F .finish-is i h, F .latest-is i h) (record {
         early = finish-most J (F .sound) (F .free) i l;
-        near = near-zero _ (latest-least J (F .sound) (F .free) i l) (latest-most J (F .sound) (F .free) i l);
+        near = omega (arith, latest-near J (F .sound) (F .free) i l .mag-most);
       })
 
 -- What a judged file is to the plan: planable, or refused.

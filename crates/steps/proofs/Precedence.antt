@@ -9,16 +9,10 @@ use lib.IntN.{ℤ, pos, negsuc}
 use Rattle.rules.specs.Job.{Job}
 use Rattle.rules.specs.Moments.{latest, sooner}
 use Rattle.laws.proofs.Order.{smaller-sooner}
-use Rattle.laws.proofs.Signed.{up, dn, _≼_, _≺_, below-zero, below-zero-is}
+use Rattle.laws.proofs.Signed.{up, dn}
 use Rattle.slots.proofs.Seams.{lower-sooner}
 use Rattle.laws.proofs.Words.{by-test}
 use Rattle.steps.specs.Keys.{keyOf, noKey}
-
--- A moment that is not far below zero.
-pub not-far : (z : ℤ) → below-zero 244800 ≼ z → dn z ≤ 524288
-unfolding up dn
-not-far (pos k) low = omega arith
-not-far (negsuc k) low = omega (arith, below-zero-is 244800)
 
 -- A key is the raised moment and the number.
 key-is : (z : ℤ) (i : ℕ) → dn z ≤ 524288 → keyOf z i + dn z * 256 ≡ (up z + 524288) * 256 + i
@@ -32,7 +26,7 @@ unfolding keyOf
 key-tells (pos k) i h = omega arith
 key-tells (negsuc k) i h = omega arith
 
-pub key-somebody : (z : ℤ) (i : ℕ) → i < 256 → z ≼ pos 40000 → keyOf z i < noKey
+pub key-somebody : (z : ℤ) (i : ℕ) → i < 256 → up z ≤ 524288 → keyOf z i < noKey
 unfolding keyOf up dn
 key-somebody (pos k) i h b = omega arith
 key-somebody (negsuc k) i h b = omega arith

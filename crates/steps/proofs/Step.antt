@@ -12,7 +12,7 @@ use Rattle.rules.specs.Rings.{ringPiece}
 use Rattle.rules.specs.Tables.{Sound}
 use Rattle.rules.specs.Urgency.{horizon}
 use Rattle.laws.proofs.Finishing.{horizon-most}
-use Rattle.laws.proofs.Latest.{latest-least}
+use Rattle.laws.proofs.Latest.{latest-near}
 use Rattle.laws.proofs.Sound.{fits}
 use Rattle.slots.specs.Stretch.{at, Stretch}
 use Rattle.slots.proofs.Ended.{Ended}
@@ -28,7 +28,6 @@ use Rattle.steps.proofs.LogHeld.{LogHeld}
 use Rattle.steps.proofs.LogStep.{note-step}
 use Rattle.steps.proofs.Moved.{Desks}
 use Rattle.steps.proofs.NextMoment.{desks, next-ahead, next-most, quiet-until, no-next, next-within}
-use Rattle.steps.proofs.Precedence.{not-far}
 use Rattle.steps.proofs.WorkStep.{WorkHeld, work-step}
 
 -- The tables hold the plan at moment t.
@@ -67,7 +66,7 @@ module _ (J : Job) (sound : Sound J) (free : ringPiece J ≡ none) (T : Tables) 
       desk-is = L .desk-is;
       desk-most = λ i b. rw (L .desk-is i b) at (few-desks i b);
       key-is = L .key-is;
-      not-far = λ i b. not-far _ (latest-least J sound free i (rw (L .count) b));
+      not-far = λ i b. omega (arith, latest-near J sound free i (rw (L .count) b) .dn-most);
       left-is = h .working .left-is;
       ready-is = h .waiting .ready-is;
       inside = open-inside;

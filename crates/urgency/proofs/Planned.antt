@@ -12,7 +12,7 @@ use Rattle.rules.specs.Tables.{linkIn}
 use Rattle.rules.specs.Urgency.{start, finish, horizon}
 use Rattle.rules.specs.declared.Link.{Link}
 use Rattle.laws.proofs.Finishing.{all-finished, horizon-most}
-use Rattle.laws.proofs.Latest.{latest-most}
+use Rattle.laws.proofs.Latest.{latest-near}
 use Rattle.laws.proofs.Sound.{LinkFits, fits, link-fit}
 use Rattle.laws.proofs.Words.{length-below, mem-map, below-mem}
 use Rattle.links.specs.Links.{linksTo}
@@ -111,7 +111,7 @@ module _ (T : Tables) (dues : List ℕ) where
       desk-most = λ q h. desks-few (getD table q 0) (o .inside q h);
       telling = λ q h. rw (g .key-is _ (o .inside q h)) (key-tells _ _ (omega (arith, o .inside q h, few)));
       own-key = λ q h. rw (g .key-is _ (o .inside q h)) (key-somebody _ _ (omega (arith, o .inside q h, few))
-          (latest-most job (g .sound) (g .free) _ (rw (lists .count) (o .inside q h))));
+          (omega (arith, latest-near job (g .sound) (g .free) (getD table q 0) (rw (lists .count) (o .inside q h)) .up-most)));
     }
 
     -- Before the first slot every piece is unfinished.

@@ -9,8 +9,7 @@ use lib.IntN.{ℤ, pos, negsuc, _+ℤ_, natAbs}
 use lib.ListN.{length, getD, set, length-set}
 use Rattle.rules.specs.Job.{pieceCount}
 use Rattle.rules.specs.Tables.{jobIn}
-use Rattle.laws.proofs.Latest.{latest-least, latest-most}
-use Rattle.laws.proofs.Signed.{up, dn, _≼_, below-zero, below-zero-is}
+use Rattle.laws.proofs.Latest.{latest-near}
 use Rattle.links.proofs.LinkLaws.{job-pieces}
 use Rattle.steps.specs.Keys.{keyOf, Keyed}
 use Rattle.urgency.specs.Plan.{Given, Ranked}
@@ -39,12 +38,6 @@ keyed-more latests keys i x b e h = record {
   each = filled keys i x (λ j. keyOf (getD latests j (pos 0)) j) (omega (arith, h .sized)) (h .each) e;
 }
 
--- A latest moment is near zero.
-near : (z : ℤ) → below-zero 244800 ≼ z → z ≼ pos 40000 → natAbs z ≤ 500000
-unfolding up dn
-near (pos k) low high = omega arith
-near (negsuc k) low high = omega (arith, below-zero-is 244800)
-
 -- What is given of the latest moments, as keys.
 module _ (n m : ℕ) (desks durations releases dues befores afters handovers : List ℕ) (latests : List ℤ)
     (g : Given (jobIn n m desks durations releases dues befores afters handovers) n latests) where
@@ -57,7 +50,7 @@ module _ (n m : ℕ) (desks durations releases dues befores afters handovers : L
   pub given-near : (i : ℕ) → i < n → natAbs (getD latests i (pos 0)) ≤ 500000
   given-near i h =
       let l : i < pieceCount (jobIn n m desks durations releases dues befores afters handovers) = omega (arith, counted) in
-      rw (g .latest-is i h) (near _ (latest-least _ (g .sound) (g .free) i l) (latest-most _ (g .sound) (g .free) i l))
+      rw (g .latest-is i h) (omega (arith, latest-near _ (g .sound) (g .free) i l .abs-most))
 
   pub given-ranked : (keys : List ℕ) → Keyed n latests keys
       → Ranked (jobIn n m desks durations releases dues befores afters handovers) n keys
