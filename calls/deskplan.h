@@ -25,12 +25,15 @@ enum {
     DESK_DECIDING = 20496,       /* these first bytes of a file decide; nothing behind them counts */
     DESK_ROOM_FOR_A_PIECE = 48,  /* bytes of buffer that plan and sheet ask for each piece of the file */
     DESK_ROOM = 12288,           /* bytes of buffer that are enough for every file */
+    DESK_PIECE_ROW = 4,          /* numbers of a piece that desk_write takes */
+    DESK_LINK_ROW = 3,           /* numbers of a link that it takes */
+    DESK_FILE_ROOM = 20480,      /* bytes of the longest file that it makes */
     DESK_LISTING_ROOM = 131072   /* bytes that desk_listing asks for */
 };
 
 /*
  * The refusals. Whole records are judged in file order, each for 2, 3, 4, 5, 6, 7, 9, 10, 8 in that order;
- * then come 1, 11, 13, 12. The first that holds is the refusal. Records count from 0. A refused call has zero
+ * then come 1, 11, 13, 12, and 14 for desk_write. The first that holds is the refusal. Records count from 0. A refused call has zero
  * in every number of its answer but the first two, and touches no byte of the buffer.
  */
 enum {
@@ -47,12 +50,14 @@ enum {
     DESK_HANDOVER = 10,           /* above 480 */
     DESK_RING = 11,               /* a piece leads by links back to itself; place: the lowest such piece */
     DESK_BUFFER_TOO_SHORT = 12,   /* shorter than 48 bytes times the pieces of the file; place 0 */
-    DESK_ASKED_ABOVE_31 = 13      /* block sheet only; place 0 */
+    DESK_ASKED_ABOVE_31 = 13,     /* block sheet only; place 0 */
+    DESK_FILE_ROOM_SHORT = 14     /* desk_write only: the buffer is too short for the file; place 0 */
 };
 
-/* Places in the answer of desk_plan, and of desk_blocks. */
+/* Places in the answer of desk_plan, of desk_blocks and of desk_write; the first two are the same in all. */
 enum { DESK_NUMBER, DESK_PLACE, DESK_PIECES, DESK_RUNS, DESK_END, DESK_WORST, DESK_PLAN_ANSWER };
 enum { DESK_SHEET_BLOCKS = 2, DESK_SHEET_RUNS, DESK_SHEET_WORST, DESK_SHEET_ANSWER };
+enum { DESK_FILE_BYTES = 2, DESK_WRITE_ANSWER }; /* of desk_write */
 
 /*
  * The first byte of the records that the calls write. Byte 1 is the desk, 2-3 the piece (of a block: how many
@@ -93,6 +98,20 @@ void desk_runs(const uint8_t *records, size_t records_len, uint8_t desk, uint64_
  * many bytes it took; a text buffer of less than DESK_LISTING_ROOM bytes stays as it was, and written[0] is 0.
  */
 void desk_listing(const uint8_t *file, size_t file_len, uint8_t *text, size_t text_len, uint64_t written[1]);
+
+/*
+ * Makes a job file of pieces and links that were typed into a form, in their order. A piece is a row of four
+ * numbers: desk, duration, release, due; a link a row of three: the piece before, the piece after, handover.
+ * The lengths count numbers. The file stands at the front of the buffer; the bytes behind it stay. What
+ * desk_plan reads in it is what was typed, and a file that desk_plan reads is made again byte by byte.
+ * Rows are judged as their records would be, with the same number and place: 4, 5, 6, 7 for a piece and
+ * 4, 9, 10 for a link; a number too large for its field in a record is refused like every other that is too
+ * large, and never cut. Then 1, numbers left behind the last whole row of pieces or of links, its place the
+ * count of whole rows; then 14. Rings are left to desk_plan.
+ * Answer: number and place, bytes of the file.
+ */
+void desk_write(const uint32_t *pieces, size_t pieces_len, const uint32_t *links, size_t links_len,
+                uint8_t *buffer, size_t buffer_len, uint64_t answer[DESK_WRITE_ANSWER]);
 
 #ifdef __cplusplus
 }

@@ -1,19 +1,19 @@
 /*
- * A program that uses the planner from C. It plans the first sheet of the rules page, shows one desk's runs
- * and block sheet, and then what a refused file gives. What it prints is stored in example.expected.
+ * A program that uses the planner from C. It makes the first sheet of the rules page from typed rows, plans
+ * it, shows one desk's runs and block sheet, and then what refused files and forms give. What it prints is stored in example.expected.
  */
 #include <inttypes.h>
 #include <stdio.h>
 
 #include "deskplan.h"
 
-/* Three pieces and a link: 0/4/0/20, 0/2/1/5, 1/3/0/12; 0>2+2. */
-static const uint8_t p1[4 * DESK_RECORD] = {
-    1, 0, 4, 0, 0, 0, 0, 0, 20, 0, 0, 0, 0, 0, 0, 0, /* piece 0: desk 0, duration 4, release 0, due 20 */
-    1, 0, 2, 0, 1, 0, 0, 0, 5,  0, 0, 0, 0, 0, 0, 0, /* piece 1: desk 0, duration 2, release 1, due 5 */
-    1, 1, 3, 0, 0, 0, 0, 0, 12, 0, 0, 0, 0, 0, 0, 0, /* piece 2: desk 1, duration 3, release 0, due 12 */
-    2, 0, 0, 0, 2, 0, 2, 0, 0,  0, 0, 0, 0, 0, 0, 0, /* piece 0 before piece 2, handover 2 */
+static const uint32_t pieces[3 * DESK_PIECE_ROW] = {
+    0, 4, 0, 20, /* piece 0: desk 0, duration 4, release 0, due 20 */
+    0, 2, 1, 5,  /* piece 1: desk 0, duration 2, release 1, due 5 */
+    1, 3, 0, 12, /* piece 2: desk 1, duration 3, release 0, due 12 */
 };
+static const uint32_t links[1 * DESK_LINK_ROW] = {0, 2, 2}; /* piece 0 before piece 2, handover 2 */
+static const uint32_t on_desk_32[2 * DESK_PIECE_ROW] = {0, 4, 0, 20, 32, 2, 1, 5};
 
 static unsigned two_bytes(const uint8_t *at) { return (unsigned)at[0] | (unsigned)at[1] << 8; }
 
@@ -46,11 +46,19 @@ static void print_records(const uint8_t *records, size_t length) {
     for (size_t at = 0; at + DESK_RECORD <= length; at += DESK_RECORD) print_record(records + at);
 }
 
+static void print_file(const uint8_t *file, size_t length) {
+    for (size_t at = 0; at < length; at++) printf("%02x%c", file[at], at % DESK_RECORD == 15 ? '\n' : ' ');
+}
+
 int main(void) {
-    static uint8_t buffer[DESK_ROOM];
+    static uint8_t p1[4 * DESK_RECORD], buffer[DESK_ROOM];
     static const uint8_t zeros[17] = {0};
     int64_t plan[DESK_PLAN_ANSWER], sheet[DESK_SHEET_ANSWER];
-    uint64_t stretch[2];
+    uint64_t stretch[2], file[DESK_WRITE_ANSWER];
+
+    desk_write(pieces, 3 * DESK_PIECE_ROW, links, 1 * DESK_LINK_ROW, p1, sizeof p1, file);
+    printf("file: %" PRIu64 " bytes\n", file[DESK_FILE_BYTES]);
+    print_file(p1, (size_t)file[DESK_FILE_BYTES]);
 
     desk_plan(p1, sizeof p1, buffer, sizeof buffer, plan);
     size_t written = DESK_RECORD * (size_t)(plan[DESK_PIECES] + plan[DESK_RUNS]);
@@ -72,5 +80,10 @@ int main(void) {
     desk_plan(p1, sizeof p1, buffer, 3 * DESK_ROOM_FOR_A_PIECE - 1, plan);
     printf("a buffer one byte short: refused %" PRId64 " at %" PRId64 "\n", plan[DESK_NUMBER],
            plan[DESK_PLACE]);
+    desk_write(on_desk_32, 2 * DESK_PIECE_ROW, links, 0, p1, sizeof p1, file);
+    printf("a form with desk 32: refused %" PRIu64 " at %" PRIu64 "\n", file[DESK_NUMBER], file[DESK_PLACE]);
+    desk_write(pieces, 3 * DESK_PIECE_ROW, links, 0, p1, 3 * DESK_RECORD - 1, file);
+    printf("a file one byte too long: refused %" PRIu64 " at %" PRIu64 "\n", file[DESK_NUMBER],
+           file[DESK_PLACE]);
     return 0;
 }

@@ -4,9 +4,10 @@
 use crate::calls::{Calls, Text};
 use crate::difference::Difference;
 use crate::expected::Expected;
+use crate::forms::{check_file, check_form};
 use crate::lent::Lent;
 use desk::LISTING_ROOM;
-use second::make::Case;
+use second::make::{Case, Form};
 
 /// What a comparison without a difference has looked at.
 #[derive(Clone, Copy, Debug, Default, PartialEq, Eq)]
@@ -18,6 +19,8 @@ pub struct Seen {
     /// Block sheets with blocks, and stretches of runs that are not empty.
     pub sheets: u64,
     pub stretches: u64,
+    /// 1 for a file that was read and written again.
+    pub rewritten: u64,
 }
 
 pub struct Comparison {
@@ -55,8 +58,14 @@ impl Comparison {
         }
         self.runs(&records.0, records.1)?;
         self.listing(&file)?;
+        seen.rewritten = check_file(&self.calls, &case.file)?;
         Difference::check_bytes("the file itself", &case.file, file.part())?;
         Ok(seen)
+    }
+
+    /// The writer on a form. Gives the number of the refusal, 0 if a file was written.
+    pub fn check_form(&self, form: &Form) -> Result<i64, Difference> {
+        check_form(&self.calls, form)
     }
 
     /// Gives the records of the plan.

@@ -6,6 +6,7 @@ pub mod calls;
 pub mod compare;
 pub mod difference;
 pub mod expected;
+pub mod forms;
 pub mod lent;
 pub mod tally;
 

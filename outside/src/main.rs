@@ -4,7 +4,7 @@
 use outside::calls::PROVED;
 use outside::difference::hex_lines;
 use outside::{Comparison, Tally};
-use second::make::{case, records};
+use second::make::{case, form, records};
 use std::process::ExitCode;
 
 const USAGE: &str = "usage: outside [--files N] [--seed S] [--from INDEX]";
@@ -28,8 +28,13 @@ fn main() -> ExitCode {
     for index in asked.from..asked.from.saturating_add(asked.files) {
         let note = Note { seed: asked.seed, index };
         let (case, records) = (case(asked.seed, index), records(asked.seed, index));
-        match comparison.check(&case, &records) {
-            Ok(seen) => tally.add(seen),
+        let form = form(asked.seed, index);
+        let seen = comparison.check(&case, &records);
+        match seen.and_then(|seen| Ok((seen, comparison.check_form(&form)?))) {
+            Ok((seen, number)) => {
+                tally.add(seen);
+                tally.add_form(number);
+            }
             Err(difference) => {
                 tally.failed += 1;
                 if tally.failed <= SHOWN {
@@ -37,6 +42,8 @@ fn main() -> ExitCode {
                     println!("{difference}");
                     println!("  the file, {} bytes:", case.file.len());
                     print!("{}", hex_lines(&case.file));
+                    println!("  the form: pieces {:?}", form.pieces);
+                    println!("  links {:?}", form.links);
                 }
             }
         }

@@ -17,6 +17,9 @@ pub struct Tally {
     pub full: u64,
     pub sheets: u64,
     pub stretches: u64,
+    /// Files that were read and written again, and forms by the number of their refusal, 0 for written ones.
+    pub rewritten: u64,
+    pub forms: BTreeMap<i64, u64>,
 }
 
 impl Tally {
@@ -27,6 +30,12 @@ impl Tally {
         self.full += u64::from(seen.pieces == MOST_PIECES && seen.links == MOST_LINKS);
         self.sheets += seen.sheets;
         self.stretches += seen.stretches;
+        self.rewritten += seen.rewritten;
+    }
+
+    /// A form by the number of its refusal, 0 if it was written.
+    pub fn add_form(&mut self, number: i64) {
+        *self.forms.entry(number).or_default() += 1;
     }
 
     pub fn accepted(&self) -> u64 {
@@ -36,12 +45,20 @@ impl Tally {
 
 impl Display for Tally {
     fn fmt(&self, to: &mut Formatter) -> fmt::Result {
-        let numbers = self.by_number.iter().filter(|(number, _)| **number != 0);
-        let refused: Vec<String> =
-            numbers.map(|(number, files)| format!("{number}: {files}")).collect();
-        writeln!(to, "accepted {}, refused by number {}", self.accepted(), refused.join(", "))?;
+        let by_number = refused(&self.by_number);
+        writeln!(to, "accepted {}, refused by number {by_number}", self.accepted())?;
         writeln!(to, "with 256 pieces {}, and 1,024 links too {}", self.most_pieces, self.full)?;
         writeln!(to, "block sheets {}, stretches of runs {}", self.sheets, self.stretches)?;
+        writeln!(to, "files read and written again {}", self.rewritten)?;
+        let written = self.forms.get(&0).copied().unwrap_or(0);
+        let by_number = refused(&self.forms);
+        writeln!(to, "forms written {written}, refused by number {by_number}")?;
         write!(to, "{} passed, {} failed", self.passed, self.failed)
     }
+}
+
+/// The counts behind each number but 0.
+fn refused(by_number: &BTreeMap<i64, u64>) -> String {
+    let numbers = by_number.iter().filter(|(number, _)| **number != 0);
+    numbers.map(|(number, count)| format!("{number}: {count}")).collect::<Vec<_>>().join(", ")
 }

@@ -1,6 +1,7 @@
 //! A second desk planner, written from the rules page alone and kept naive. Its worth is that it
 //! shares nothing with the proved planner: where the two differ on a file, one of them is wrong.
-//! The three calls answer as the page says, and `listing` is what `deskplan` prints.
+//! The calls answer as the page says, `write` as the first request beyond it, and `listing` is what `deskplan`
+//! prints.
 
 pub mod blocks;
 pub mod job;
@@ -9,10 +10,12 @@ pub mod make;
 pub mod plan;
 pub mod records;
 pub mod runs;
+pub mod write;
 
 pub use job::{read, Job, Link, Piece, Refusal};
 pub use listing::listing;
 pub use runs::runs;
+pub use write::{write, WriteAnswer};
 
 /// The answer of the plan call; a refused one has nothing but its number and place.
 #[derive(Clone, Copy, Debug, Default, PartialEq, Eq)]

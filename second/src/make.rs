@@ -5,6 +5,7 @@
 mod chance;
 mod damaged;
 mod draft;
+mod forms;
 mod mixed;
 mod odd;
 mod shapes;
@@ -34,6 +35,29 @@ pub fn case(seed: u64, index: u64) -> Case {
     let desk = desk(&mut chance, &file);
     let length = buffer_length(&mut chance, &file);
     Case { file, desk, buffer: chance.bytes(length) }
+}
+
+/// One question to the writer: the rows of a form, and a lent buffer with marks in it.
+#[derive(Clone, Debug, PartialEq, Eq)]
+pub struct Form {
+    pub pieces: Vec<u32>,
+    pub links: Vec<u32>,
+    pub buffer: Vec<u8>,
+}
+
+/// The random form of this seed and index; some buffers are too short (refusal 14).
+pub fn form(seed: u64, index: u64) -> Form {
+    let mut chance = Chance::new(seed, index);
+    let (pieces, links) = forms::rows(&mut chance);
+    let file = RECORD * (pieces.len() / 4 + links.len() / 3);
+    let length = match chance.below(12) {
+        0 => file.saturating_sub(1),
+        1 => chance.between(0, file as u64) as usize,
+        2 => 0,
+        3..=6 => file,
+        _ => file + chance.below(100) as usize,
+    };
+    Form { pieces, links, buffer: chance.bytes(length) }
 }
 
 /// Random bytes for the runs call, and a desk. Most records are runs of few desks, so that

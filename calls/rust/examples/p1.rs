@@ -1,19 +1,22 @@
-//! The twin of `example.c` in the folder above: it plans the first sheet of the rules page, shows one desk's
-//! runs and block sheet, and then what a refused file gives. Both print what `example.expected` stores.
+//! The twin of `example.c` in the folder above: it makes the first sheet of the rules page from typed rows, plans
+//! it, shows one desk's runs and block sheet, and then what refused files and forms give. Both print what `example.expected` stores.
 
-use desk::{blocks, plan, records, runs, Record, ROOM, ROOM_FOR_A_PIECE};
+use desk::{blocks, plan, records, runs, write, Record, ROOM, ROOM_FOR_A_PIECE};
 
-/// Three pieces and a link: 0/4/0/20, 0/2/1/5, 1/3/0/12; 0>2+2.
-const P1: [[u8; 16]; 4] = [
-    [1, 0, 4, 0, 0, 0, 0, 0, 20, 0, 0, 0, 0, 0, 0, 0],
-    [1, 0, 2, 0, 1, 0, 0, 0, 5, 0, 0, 0, 0, 0, 0, 0],
-    [1, 1, 3, 0, 0, 0, 0, 0, 12, 0, 0, 0, 0, 0, 0, 0],
-    [2, 0, 0, 0, 2, 0, 2, 0, 0, 0, 0, 0, 0, 0, 0, 0],
-];
+/// Three pieces, each desk, duration, release, due, and a link: piece 0 before piece 2, handover 2.
+const PIECES: [[u32; 4]; 3] = [[0, 4, 0, 20], [0, 2, 1, 5], [1, 3, 0, 12]];
+const LINKS: [[u32; 3]; 1] = [[0, 2, 2]];
 
 fn main() {
-    let file = P1.concat();
+    let mut file = [0; 64];
     let mut buffer = [0; ROOM];
+
+    let made = write(PIECES.as_flattened(), LINKS.as_flattened(), &mut file);
+    println!("file: {} bytes", made.bytes);
+    for record in file.chunks(16) {
+        let bytes: Vec<String> = record.iter().map(|byte| format!("{byte:02x}")).collect();
+        println!("{}", bytes.join(" "));
+    }
 
     let answer = plan(&file, &mut buffer);
     println!(
@@ -41,6 +44,12 @@ fn main() {
     }
     if let Some(refusal) = plan(&file, &mut buffer[..3 * ROOM_FOR_A_PIECE - 1]).refusal() {
         println!("a buffer one byte short: refused {} at {}", refusal.number, refusal.place);
+    }
+    if let Some(refusal) = write(&[0, 4, 0, 20, 32, 2, 1, 5], &[], &mut file).refusal() {
+        println!("a form with desk 32: refused {} at {}", refusal.number, refusal.place);
+    }
+    if let Some(refusal) = write(PIECES.as_flattened(), &[], &mut file[..47]).refusal() {
+        println!("a file one byte too long: refused {} at {}", refusal.number, refusal.place);
     }
 }
 

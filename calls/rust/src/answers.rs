@@ -1,4 +1,4 @@
-//! The answers of the plan and of the block sheet. Their numbers are those of the library as they come, so
+//! The answers of the plan, of the block sheet and of the writer. Their numbers are those of the library as they come, so
 //! that a test which compares them sees every bit; what a caller asks of them most stands in methods.
 
 use crate::RECORD;
@@ -34,6 +34,15 @@ pub struct BlockAnswer {
     pub worst: i64,
 }
 
+/// The answer of the writer; a refused one has nothing but its number and place.
+#[derive(Clone, Copy, Debug, Default, PartialEq, Eq)]
+pub struct WriteAnswer {
+    pub number: u64,
+    pub place: u64,
+    /// How many bytes at the front of the buffer are the file.
+    pub bytes: u64,
+}
+
 impl PlanAnswer {
     /// Why the file was refused, if it was.
     pub fn refusal(&self) -> Option<Refusal> {
@@ -55,6 +64,19 @@ impl BlockAnswer {
     /// How many bytes at the front of the buffer are records of this sheet.
     pub fn written(&self) -> usize {
         RECORD * (self.blocks + self.runs) as usize
+    }
+}
+
+impl WriteAnswer {
+    /// Why the form was refused, if it was.
+    pub fn refusal(&self) -> Option<Refusal> {
+        // A place counts rows, of which no slice has so many that a bit is lost.
+        refusal(self.number as i64, self.place as i64)
+    }
+
+    /// How many bytes at the front of the buffer are the file.
+    pub fn written(&self) -> usize {
+        self.bytes as usize
     }
 }
 

@@ -1,6 +1,6 @@
 //! The proved calls of the desk planner as safe functions: a plan for every desk of a job file, the block
-//! sheet of one desk, the runs of one desk, and the listing. Every file, desk number and buffer may be given;
-//! a call answers or refuses by number, and nothing has to be checked first.
+//! sheet of one desk, the runs of one desk, the listing, and a job file of typed pieces and links. Every file,
+//! form, desk number and buffer may be given; a call answers or refuses by number, and nothing has to be checked first.
 
 #![deny(unsafe_code)]
 
@@ -8,7 +8,7 @@ mod answers;
 mod library;
 mod records;
 
-pub use answers::{BlockAnswer, PlanAnswer, Refusal};
+pub use answers::{BlockAnswer, PlanAnswer, Refusal, WriteAnswer};
 pub use records::{records, Record, Records};
 
 /// Bytes of a record, in the file and in the buffers.
@@ -19,6 +19,9 @@ pub const ROOM_FOR_A_PIECE: usize = 48;
 
 /// Bytes of buffer that are enough for every file.
 pub const ROOM: usize = 256 * ROOM_FOR_A_PIECE;
+
+/// Bytes of the longest file that `write` makes.
+pub const FILE_ROOM: usize = (256 + 1024) * RECORD;
 
 /// Bytes that `listing` asks for.
 pub const LISTING_ROOM: usize = 131_072;
@@ -49,4 +52,12 @@ pub fn runs(records: &[u8], desk: u8) -> &[u8] {
 pub fn listing<'a>(file: &[u8], text: &'a mut [u8; LISTING_ROOM]) -> &'a [u8] {
     let written = library::listing(file, text);
     &text[..written as usize]
+}
+
+/// Makes a job file of pieces and links that were typed into a form: a piece is a row of desk, duration, release
+/// and due, a link a row of the piece before, the piece after and the handover. The file stands at the front of
+/// the buffer; the bytes behind it stay. Numbers left behind the last whole row are refused by 1.
+pub fn write(pieces: &[u32], links: &[u32], buffer: &mut [u8]) -> WriteAnswer {
+    let [number, place, bytes] = library::write(pieces, links, buffer);
+    WriteAnswer { number, place, bytes }
 }

@@ -1,5 +1,5 @@
 //! The proved library behind safe functions, and the only unsafe code. Nothing checks these declarations
-//! against the library's source, so they are few, and all are on numbers and byte slices.
+//! against the library's source, so they are few, and all are on numbers and slices of numbers.
 //!
 //! Why it is sound: the library's functions are proved for every input to end, to read nothing but the
 //! slices and to write nothing but the lent buffer and the answer. A slice's pointer holds for its length;
@@ -20,6 +20,15 @@ extern "C" {
         answer: *mut i64,
     );
     fn desk_runs(records: *const u8, length: usize, desk: u8, stretch: *mut u64);
+    fn desk_write(
+        pieces: *const u32,
+        piece_numbers: usize,
+        links: *const u32,
+        link_numbers: usize,
+        buffer: *mut u8,
+        room: usize,
+        answer: *mut u64,
+    );
     fn desk_listing(file: *const u8, length: usize, text: *mut u8, room: usize, written: *mut u64);
 }
 
@@ -72,4 +81,22 @@ pub fn listing(file: &[u8], text: &mut [u8; crate::LISTING_ROOM]) -> u64 {
         desk_listing(file.as_ptr(), file.len(), text.as_mut_ptr(), text.len(), &mut written);
     }
     written
+}
+
+/// Number, place and bytes of the file.
+pub fn write(pieces: &[u32], links: &[u32], buffer: &mut [u8]) -> [u64; 3] {
+    let mut answer = [0; 3];
+    // Sound for the reasons at the head; the answer has the three numbers that the call writes.
+    unsafe {
+        desk_write(
+            pieces.as_ptr(),
+            pieces.len(),
+            links.as_ptr(),
+            links.len(),
+            buffer.as_mut_ptr(),
+            buffer.len(),
+            answer.as_mut_ptr(),
+        );
+    }
+    answer
 }

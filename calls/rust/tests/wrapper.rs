@@ -1,8 +1,8 @@
 //! What the safe functions add to the library: parts of the caller's own slice, records as values, and slices
 //! without bytes. What the library itself answers is tested in the package `outside`.
 
-use desk::{blocks, listing, plan, records, runs, BlockAnswer, PlanAnswer, Record, Refusal};
-use desk::{LISTING_ROOM, ROOM};
+use desk::{blocks, listing, plan, records, runs, write, BlockAnswer, PlanAnswer, Record, Refusal};
+use desk::{WriteAnswer, LISTING_ROOM, ROOM};
 
 fn piece(desk: u8, duration: u8, release: u8, due: u8) -> Vec<u8> {
     vec![1, desk, duration, 0, release, 0, 0, 0, due, 0, 0, 0, 0, 0, 0, 0]
@@ -20,6 +20,7 @@ fn slices_without_bytes() {
     assert_eq!(blocks(&[], 31, &mut []), BlockAnswer::default());
     assert_eq!(blocks(&[], 32, &mut []).refusal(), Some(Refusal { number: 13, place: 0 }));
     assert_eq!(runs(&[], 0), []);
+    assert_eq!(write(&[], &[], &mut []), WriteAnswer::default());
     let short = plan(&p1(), &mut []);
     assert_eq!(short.refusal(), Some(Refusal { number: 12, place: 0 }));
     assert_eq!(short.written(), 0);
@@ -82,4 +83,15 @@ fn the_listing_is_the_text_alone() {
     assert_eq!(listing(&[0; 17], &mut text), b"refused 2 at 0\n");
     let mut lines = listing(&p1(), &mut text).split_inclusive(|&byte| byte == b'\n');
     assert_eq!(lines.next_back(), Some(&b"total pieces 3 runs 4 end 11 worst -1\n"[..]));
+}
+
+#[test]
+fn a_file_is_made_of_typed_rows() {
+    let mut file = [0xFF; 70];
+    let answer = write(&[0, 4, 0, 20, 0, 2, 1, 5, 1, 3, 0, 12], &[0, 2, 2], &mut file);
+    assert_eq!((answer.refusal(), answer.written()), (None, 64));
+    assert_eq!(file[..64], p1());
+    let answer = write(&[0, 4, 0, 20, 300, 2, 1, 5], &[], &mut file);
+    assert_eq!(answer.refusal(), Some(Refusal { number: 5, place: 1 }));
+    assert_eq!(answer.written(), 0);
 }

@@ -93,7 +93,7 @@ unfolding when
 one-of true fault later most h k = h
 one-of false fault later most h k = k
 
-first-most : (a b most : ℕ) → a ≤ most → b ≤ most → firstFault a b ≤ most
+pub first-most : (a b most : ℕ) → a ≤ most → b ≤ most → firstFault a b ≤ most
 unfolding firstFault
 first-most zero b most h k = k
 first-most (suc a) b most h k = h
@@ -104,7 +104,7 @@ kind-most ofPiece = omega arith
 kind-most ofLink = omega arith
 kind-most unknown = omega arith
 
-order-most : (k : Kind) (K : Job) → orderFault k K ≤ 10
+pub order-most : (k : Kind) (K : Job) → orderFault k K ≤ 10
 unfolding orderFault
 order-most ofPiece K =
     one-of (ltb 0 (length (K .links))) 3 (when (leb 256 (pieceCount K)) 4 0) 10 (omega arith)
@@ -112,14 +112,14 @@ order-most ofPiece K =
 order-most ofLink K = one-of (leb 1024 (length (K .links))) 4 0 10 (omega arith) (omega arith)
 order-most unknown K = omega arith
 
-piece-most : (p : Piece) → pieceFault p ≤ 10
+pub piece-most : (p : Piece) → pieceFault p ≤ 10
 unfolding pieceFault when
 piece-most p = by-test (ltb 31 (p .desk)) (λ a. rw (a, when) (omega arith))
     (λ a. by-test (eqb (p .duration) 0 || ltb 960 (p .duration)) (λ b. rw (a, b, when) (omega arith))
     (λ b. by-test (ltb 40000 (p .release) || ltb 40000 (p .due)) (λ c. rw (a, b, c, when) (omega arith))
     (λ c. rw (a, b, c, when) (omega arith))))
 
-link-most : (n : ℕ) (l : Link) → linkFault n l ≤ 10
+pub link-most : (n : ℕ) (l : Link) → linkFault n l ≤ 10
 unfolding linkFault when
 link-most n l = by-test (leb n (l .before) || leb n (l .after)) (λ a. rw (a, when) (omega arith))
     (λ a. by-test (ltb 480 (l .handover)) (λ b. rw (a, b, when) (omega arith)) (λ b. rw (a, b, when) (omega arith)))
@@ -142,10 +142,10 @@ record-most k K r =
     (first-most (valueFault k K r) (zeroFault k r) 10 (value-most k K r) (zero-most k r)))
 
 -- The refusal that the reader gives, if it gives one.
-OnList : ℕ → Refusal → Type 0
+unfoldable pub OnList : ℕ → Refusal → Type 0
 OnList most r = (1 ≤ r .number) × (r .number ≤ most)
 
-Refuses : ℕ → Outcome → Type 0
+unfoldable pub Refuses : ℕ → Outcome → Type 0
 Refuses most (refused r) = OnList most r
 Refuses most (accepted J) = Unit {0}
 
@@ -190,7 +190,7 @@ read-refuses s zero k K = then-refuses (itemAt s k K) K accepted (item-stops s k
 read-refuses s (suc left) k K =
     then-refuses (itemAt s k K) K (λ K′. readFrom s left (k + 1) K′) (item-stops s k K) (λ K′. read-refuses s left (k + 1) K′)
 
-judge-refuses : (few most : ℕ) → few ≤ most → (o : Outcome) (further : Job → Outcome) → Refuses few o
+pub judge-refuses : (few most : ℕ) → few ≤ most → (o : Outcome) (further : Job → Outcome) → Refuses few o
     → ((K : Job) → Refuses most (further K)) → Refuses most (thenJudge o further)
 unfolding thenJudge Refuses OnList
 judge-refuses few most l (refused r) further h k = (h .0, omega (arith, h .1))

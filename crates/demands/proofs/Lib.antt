@@ -10,3 +10,6 @@ pub mod Best
 pub mod Runs
 pub mod Answers
 pub mod Sheets
+pub mod FormRefusals
+pub mod Writer
+pub mod Rewritten

@@ -5,8 +5,10 @@ use mathlib.Core.Path.{_≡_}
 use Rattle.rules.specs.Plan.{planAnswer, planBuffer}
 use Rattle.rules.specs.BlockSheet.{blockAnswer, blockBuffer}
 use Rattle.rules.specs.DeskRuns.{stretchFrom, stretch}
+use Rattle.rules.specs.Form.{writeAnswer, writeBuffer}
 use Rattle.rules.specs.declared.PlanAnswer.{PlanAnswer}
 use Rattle.rules.specs.declared.BlockAnswer.{BlockAnswer}
+use Rattle.rules.specs.declared.WriteAnswer.{WriteAnswer}
 
 -- The plan.
 pub record PlanPromise (file buffer : List ℕ) (answer : PlanAnswer) (after : List ℕ) : Type 0 where
@@ -22,3 +24,8 @@ pub record BlockPromise (file : List ℕ) (desk : ℕ) (buffer : List ℕ) (answ
 pub record RunsPromise (records : List ℕ) (desk : ℕ) (part : List ℕ) (place : ℕ) : Type 0 where
   pub bytes : part ≡ stretch records desk
   pub begins : place ≡ stretchFrom records desk
+
+-- The writer: the rows of pieces and of links that were typed into a form.
+pub record WritePromise (pieces links buffer : List ℕ) (answer : WriteAnswer) (after : List ℕ) : Type 0 where
+  pub answered : answer ≡ writeAnswer pieces links buffer
+  pub left-there : after ≡ writeBuffer pieces links buffer

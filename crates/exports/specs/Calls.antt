@@ -6,8 +6,10 @@ use lib.IntN.{ℤ, pos}
 use Rattle.rules.specs.Plan.{planAnswer, planBuffer}
 use Rattle.rules.specs.BlockSheet.{blockAnswer, blockBuffer}
 use Rattle.rules.specs.DeskRuns.{stretchFrom, stretchEnd}
+use Rattle.rules.specs.Form.{writeAnswer, writeBuffer}
 use Rattle.rules.specs.declared.PlanAnswer.{PlanAnswer}
 use Rattle.rules.specs.declared.BlockAnswer.{BlockAnswer}
+use Rattle.rules.specs.declared.WriteAnswer.{WriteAnswer}
 use Rattle.deskplan_text.specs.Promise.{listedCount, listedText}
 
 -- number, place, pieces, runs, end, worst
@@ -35,3 +37,11 @@ pub record RunsCall (records : List ℕ) (desk : ℕ) (row : List ℕ) : Type 0 
 pub record ListingCall (file text after : List ℕ) (row : List ℕ) : Type 0 where
   pub answered : row ≡ listedCount file text ∷ []
   pub left-there : after ≡ listedText file text
+
+-- number, place, bytes
+abbrev pub writeRow : WriteAnswer → List ℕ
+writeRow a = a .number ∷ a .place ∷ a .bytes ∷ []
+
+pub record WriteCall (pieces links buffer after row : List ℕ) : Type 0 where
+  pub answered : row ≡ writeRow (writeAnswer pieces links buffer)
+  pub left-there : after ≡ writeBuffer pieces links buffer

@@ -3,7 +3,7 @@
 ghost use mathlib.Core.Path.{_≡_};
 ghost use Prim.Native.Nat.{_<_, _^_};
 ghost use lib.IntN.{pos};
-ghost use Rattle.exports.specs.Calls.{PlanCall, SheetCall, RunsCall, ListingCall};
+ghost use Rattle.exports.specs.Calls.{PlanCall, SheetCall, RunsCall, ListingCall, WriteCall};
 
 // Numbers of an answer as signed numbers of 64 bits.
 fn small(x: u8) -> i64
@@ -78,4 +78,19 @@ pub extern "C" fn desk_listing(file: &[u8], text: &mut [u8], written: &mut [u64;
 {
     let count = deskplan_text::write_listing(file, text);
     *written = [count as u64];
+}
+
+// number, place, bytes
+#[no_mangle]
+pub extern "C" fn desk_write(
+    pieces: &[u32],
+    links: &[u32],
+    buffer: &mut [u8],
+    answer: &mut [u64; 3],
+)
+    ensures { λ _. ⌜ WriteCall (now (pieces .entry)) (now (links .entry)) (now (buffer .entry)) (now (buffer .exit))
+        (now (answer .exit)) ⌝ }
+{
+    let a = writer::file::write_file(pieces, links, buffer);
+    *answer = [a.number as u64, a.place, a.bytes as u64];
 }

@@ -9,7 +9,9 @@ pub mod Delay
 pub mod Hours
 pub mod Reading
 pub mod Written
+pub mod Offers
 pub mod Reread
+pub mod CutDown
 pub mod Prefix
 pub mod Settling
 pub mod Latest

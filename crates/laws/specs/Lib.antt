@@ -1,2 +1,3 @@
 -- Nothing is defined here but the notions that the laws speak of.
 pub mod Leads
+pub mod Held

@@ -13,6 +13,7 @@ pub mod Bytes
 pub mod Writing
 pub mod Judgement
 pub mod Plan
+pub mod Form
 pub mod Entries
 pub mod Blocks
 pub mod BlockSheet
@@ -20,3 +21,4 @@ pub mod DeskRuns
 pub mod Listing
 pub mod Hex
 pub mod Sheets
+pub mod FormSheets

@@ -49,3 +49,10 @@ pub struct BlockAnswer {
     pub runs: u32,
     pub worst: i32,
 }
+
+// The answer of the writer of job files.
+pub struct WriteAnswer {
+    pub number: u8,
+    pub place: u64,
+    pub bytes: u32,
+}

@@ -7,3 +7,4 @@ mod notation;
 mod refusals;
 mod runs;
 mod sheets;
+mod writer;

@@ -2,8 +2,8 @@
 //! those that the rules page says must not pass.
 
 use crate::compared;
-use desk::{BlockAnswer, PlanAnswer};
-use outside::calls::{Blocks, Calls, Listing, Plan, Runs, PROVED};
+use desk::{BlockAnswer, PlanAnswer, WriteAnswer};
+use outside::calls::{Blocks, Calls, Listing, Plan, Runs, Write, PROVED};
 
 #[test]
 fn the_proved_calls_pass() {
@@ -12,6 +12,9 @@ fn the_proved_calls_pass() {
     assert!(tally.accepted() > 2_000, "{tally}");
     assert!((0..=11).all(|number| tally.by_number.contains_key(&number)), "{tally}");
     assert!(tally.full > 10 && tally.sheets > 5_000 && tally.stretches > 5_000, "{tally}");
+    assert!(tally.rewritten > 2_000, "{tally}");
+    let numbers = [0, 1, 4, 5, 6, 7, 9, 10, 14];
+    assert!(numbers.iter().all(|number| tally.forms.contains_key(number)), "{tally}");
 }
 
 #[test]
@@ -125,5 +128,58 @@ fn wrong_listings_are_found() {
     for (place, listing) in wrong.into_iter().enumerate() {
         let calls = Calls { listing, ..PROVED };
         assert!(compared(calls, 7, 100).is_err(), "wrong listing {place} passed");
+    }
+}
+
+#[test]
+fn wrong_writers_are_found() {
+    let wrong: [Write; 8] = [
+        // Refuses everything.
+        |_, _, _| WriteAnswer { number: 14, ..WriteAnswer::default() },
+        // Answers rightly and writes nothing.
+        |pieces, links, buffer| desk::write(pieces, links, &mut buffer.to_vec()),
+        // Writes what room there is.
+        |pieces, links, buffer| {
+            let mut room = vec![0; desk::FILE_ROOM];
+            if desk::write(pieces, links, buffer).number == 14 {
+                desk::write(pieces, links, &mut room);
+                buffer.copy_from_slice(&room[..buffer.len()]);
+            }
+            desk::write(pieces, links, buffer)
+        },
+        // Clears what stands behind the file.
+        |pieces, links, buffer| {
+            let answer = desk::write(pieces, links, buffer);
+            if answer.number == 0 {
+                buffer[answer.written()..].fill(0);
+            }
+            answer
+        },
+        // Cuts numbers to their fields.
+        |pieces, links, buffer| {
+            let cut = |number: &u32| number & 0xFFFF;
+            let links: Vec<u32> = links.iter().map(cut).collect();
+            desk::write(pieces, &links, buffer)
+        },
+        // Judges the room first.
+        |pieces, links, buffer| match buffer.len() < 4 * pieces.len() {
+            true => WriteAnswer { number: 14, ..WriteAnswer::default() },
+            false => desk::write(pieces, links, buffer),
+        },
+        // Passes over a row cut short.
+        |pieces, links, buffer| {
+            let whole = pieces.len() / 4 * 4;
+            desk::write(&pieces[..whole], &links[..links.len() / 3 * 3], buffer)
+        },
+        // Counts records from 1.
+        |pieces, links, buffer| {
+            let answer = desk::write(pieces, links, buffer);
+            let one = u64::from((2..=10).contains(&answer.number));
+            WriteAnswer { place: answer.place + one, ..answer }
+        },
+    ];
+    for (place, write) in wrong.into_iter().enumerate() {
+        let calls = Calls { write, ..PROVED };
+        assert!(compared(calls, 7, 1_500).is_err(), "wrong writer {place} passed");
     }
 }

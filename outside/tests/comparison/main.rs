@@ -5,7 +5,7 @@ mod bites;
 mod expected;
 
 use outside::{Calls, Comparison, Difference, Tally};
-use second::make::{case, records};
+use second::make::{case, form, records};
 
 /// The first difference on the files of a seed, or what was seen without one.
 fn compared(calls: Calls, seed: u64, files: u64) -> Result<Tally, Difference> {
@@ -13,6 +13,7 @@ fn compared(calls: Calls, seed: u64, files: u64) -> Result<Tally, Difference> {
     let mut tally = Tally::default();
     for index in 0..files {
         tally.add(comparison.check(&case(seed, index), &records(seed, index))?);
+        tally.add_form(comparison.check_form(&form(seed, index))?);
     }
     Ok(tally)
 }

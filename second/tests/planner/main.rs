@@ -15,3 +15,4 @@ mod refusals;
 mod runs_call;
 mod sheets;
 mod urgency;
+mod writer;

@@ -1,0 +1,2 @@
+-- What the contracts of the writer cite besides the rules.
+pub mod Judged
