@@ -43,7 +43,7 @@ pub fn latest_moments(job: &Job) -> Vec<i64> {
     loop {
         let mut lowered = false;
         for link in &job.links {
-            let bound = latest[link.after] - job.pieces[link.after].duration;
+            let bound = latest[link.after] - job.pieces[link.after].duration - job.delay(link);
             if bound < latest[link.before] {
                 latest[link.before] = bound;
                 lowered = true;

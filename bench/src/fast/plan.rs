@@ -49,7 +49,7 @@ fn latest_moments(job: &Job, links: &Links, order: &[u8; 256], latest: &mut [i32
     for &piece in order[..job.pieces].iter().rev() {
         let bounds = links.from(piece).iter().map(|follower| {
             let after = usize::from(follower.piece);
-            latest[after] - job.duration[after] as i32
+            latest[after] - job.duration[after] as i32 - i32::from(follower.delay)
         });
         let least = bounds.min().unwrap_or(i32::MAX);
         latest[usize::from(piece)] = job.due[usize::from(piece)].min(least);

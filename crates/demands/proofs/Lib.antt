@@ -13,3 +13,4 @@ pub mod Sheets
 pub mod FormRefusals
 pub mod Writer
 pub mod Rewritten
+pub mod Latest

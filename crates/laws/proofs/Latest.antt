@@ -1,5 +1,5 @@
 -- Latest moments of a sound job without a ring: they satisfy the page's equation, nothing else does, they lie between
--- -244,800 and 40,000, and a piece before goes before the piece after it.
+-- -367,200 and 40,000, and a piece before goes before the piece after it.
 use Prim.Native.Nat.{ℕ, suc, _*_, _≤_, _<_}
 use mathlib.Core.Bool.{true}
 use mathlib.Core.List.{List, [], _∷_, map, List·Memᴰ as Mem, List·Memᴰ·head as here}
@@ -16,6 +16,7 @@ use Rattle.rules.specs.Tables.{Sound}
 use Rattle.rules.specs.declared.Link.{Link}
 use Rattle.laws.proofs.Words.{map-same, mem-map}
 use Rattle.laws.proofs.Signed.{up, dn, _≼_, minus, least-start, least-mem, least-within, below-zero, below-zero-is}
+use Rattle.laws.proofs.Delay.{delay-most}
 use Rattle.laws.proofs.Sound.{fits, link-fit, from-link, link-from, behind, behind-falls, behind-few, along-after}
 use Rattle.laws.proofs.Order.{smaller-sooner}
 use Rattle.laws.proofs.Settling.{settles}
@@ -58,25 +59,26 @@ within-more J n i = refl
 -- A follower takes off at least 1.
 pub takes-off-least : (J : Job) → Sound J → (l : Link) → Mem l (J .links) → 1 ≤ takesOff J l
 unfolding takesOff
-takes-off-least J sound l m = fits J sound (l .after) (link-fit J sound l m .after-one) .duration-least
+takes-off-least J sound l m = omega (arith, fits J sound (l .after) (link-fit J sound l m .after-one) .duration-least)
 
-pub takes-off-most : (J : Job) → Sound J → (l : Link) → Mem l (J .links) → takesOff J l ≤ 960
+pub takes-off-most : (J : Job) → Sound J → (l : Link) → Mem l (J .links) → takesOff J l ≤ 1440
 unfolding takesOff
-takes-off-most J sound l m = fits J sound (l .after) (link-fit J sound l m .after-one) .duration-most
+takes-off-most J sound l m =
+    omega (arith, fits J sound (l .after) (link-fit J sound l m .after-one) .duration-most, delay-most J sound l m)
 
 -- A signed number in the range of latest moments, in every word in which code asks for a range.
 pub record Near (z : ℤ) : Type 0 where
   pub up-most : up z ≤ 40000
-  pub dn-most : dn z ≤ 244800
-  pub abs-most : natAbs z ≤ 244800
-  pub mag-most : mag z ≤ 244800
+  pub dn-most : dn z ≤ 367200
+  pub abs-most : natAbs z ≤ 367200
+  pub mag-most : mag z ≤ 367200
 
-near : (z : ℤ) → below-zero 244800 ≼ z → z ≼ pos 40000 → Near z
+near : (z : ℤ) → below-zero 367200 ≼ z → z ≼ pos 40000 → Near z
 unfolding up dn
 near (pos k) low high =
     record { up-most = omega arith; dn-most = omega arith; abs-most = omega arith; mag-most = omega arith }
 near (negsuc k) low high =
-    let l : suc k ≤ 244800 = omega (arith, below-zero-is 244800) in
+    let l : suc k ≤ 367200 = omega (arith, below-zero-is 367200) in
     record { up-most = omega arith; dn-most = l; abs-most = l; mag-most = omega arith }
 
 module _ (J : Job) (sound : Sound J) (free : ringPiece J ≡ none) where
@@ -123,37 +125,37 @@ module _ (J : Job) (sound : Sound J) (free : ringPiece J ≡ none) where
       rw (latest-equation (l .before) (link-fit J sound l m .before-one))
       (asked-after J (latest J) (l .before) l (link-from J (l .before) l m refl))
 
-  -- Each piece that i leads to takes off at most 960.
-  latest-low : (i : ℕ) → i < pieceCount J → below-zero (960 * behind J sound free i) ≼ latest J i
+  -- Each piece that i leads to takes off at most 1,440.
+  latest-low : (i : ℕ) → i < pieceCount J → below-zero (1440 * behind J sound free i) ≼ latest J i
   unfolding up dn
   latest-low =
-      along-after J sound free {P = λ i. below-zero (960 * behind J sound free i) ≼ latest J i}
+      along-after J sound free {P = λ i. below-zero (1440 * behind J sound free i) ≼ latest J i}
       (λ i h later. rw (latest-equation i h)
-      (asked-most J (latest J) i (below-zero (960 * behind J sound free i))
-      (omega (arith, below-zero-is (960 * behind J sound free i)))
+      (asked-most J (latest J) i (below-zero (1440 * behind J sound free i))
+      (omega (arith, below-zero-is (1440 * behind J sound free i)))
       (λ l m.
       let w = from-link J i l m in
-      let ih : below-zero (960 * behind J sound free (l .after)) ≼ latest J (l .after) = later l (w .0) (w .1) in
+      let ih : below-zero (1440 * behind J sound free (l .after)) ≼ latest J (l .after) = later l (w .0) (w .1) in
       let f : behind J sound free (l .after) < behind J sound free (l .before) = behind-falls J sound free l (w .0) in
       let q : behind J sound free (l .before) ≡ behind J sound free i = ap (behind J sound free) (w .1) in
       omega (
         arith,
-        below-zero-is (960 * behind J sound free i),
-        below-zero-is (960 * behind J sound free (l .after)),
+        below-zero-is (1440 * behind J sound free i),
+        below-zero-is (1440 * behind J sound free (l .after)),
         minus (latest J (l .after)) (pos (takesOff J l)),
         takes-off-most J sound l (w .0),
       ))))
 
-  -- Latest moments lie in -244,800 to 40,000.
-  pub latest-least : (i : ℕ) → i < pieceCount J → below-zero 244800 ≼ latest J i
+  -- Latest moments lie in -367,200 to 40,000.
+  pub latest-least : (i : ℕ) → i < pieceCount J → below-zero 367200 ≼ latest J i
   latest-least i h =
       omega (
         arith,
         latest-low i h,
         behind-few J sound free i h,
         sound .few-pieces,
-        below-zero-is (960 * behind J sound free i),
-        below-zero-is 244800,
+        below-zero-is (1440 * behind J sound free i),
+        below-zero-is 367200,
       )
 
   pub latest-most : (i : ℕ) → i < pieceCount J → latest J i ≼ pos 40000

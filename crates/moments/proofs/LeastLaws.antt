@@ -40,18 +40,20 @@ unfolding up dn
 not-far (pos n) h = (omega arith, omega arith)
 not-far (negsuc n) h = (omega arith, omega arith)
 
-pub moment-fits : (k : ℕ) (durations afters : List ℕ) (moments : List ℤ) → ToLeave k durations afters moments
+pub moment-fits : (i k : ℕ) (desks durations afters handovers : List ℕ) (moments : List ℤ)
+    → ToLeave i k desks durations afters handovers moments
     → SFits w32 (getD moments (getD afters k 0) (pos 0))
-moment-fits k durations afters moments L =
+moment-fits i k desks durations afters handovers moments L =
     let n = not-far (getD moments (getD afters k 0) (pos 0)) (L .near) in
     near-fits (getD moments (getD afters k 0) (pos 0)) (omega (arith, n .0)) (omega (arith, n .1))
 
-pub left-fits : (k : ℕ) (durations afters : List ℕ) (moments : List ℤ) → ToLeave k durations afters moments
-    → SFits w32 (leftBy durations afters moments k)
+pub left-fits : (i k : ℕ) (desks durations afters handovers : List ℕ) (moments : List ℤ)
+    → ToLeave i k desks durations afters handovers moments
+    → SFits w32 (leftBy desks durations afters handovers moments i k)
 unfolding leftBy up dn
-left-fits k durations afters moments L =
+left-fits i k desks durations afters handovers moments L =
     let z = getD moments (getD afters k 0) (pos 0) in
-    let gap = minus z (pos (takesOffIn durations afters k)) in
+    let gap = minus z (pos (takesOffIn desks durations afters handovers i k)) in
     let n = not-far z (L .near) in
-    near-fits (z -ℤ pos (takesOffIn durations afters k)) (omega (arith, gap, n .0, n .1, L .small))
+    near-fits (z -ℤ pos (takesOffIn desks durations afters handovers i k)) (omega (arith, gap, n .0, n .1, L .small))
     (omega (arith, gap, n .0, n .1, L .small))

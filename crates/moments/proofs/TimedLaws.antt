@@ -1,16 +1,17 @@
 -- One piece more in its turn: the least of its due and of what the links from it leave is its latest moment, since the
 -- pieces after it had theirs.
-use Prim.Native.Nat.{ℕ, suc, _≤_, _<_}
+use Prim.Native.Nat.{ℕ, suc, _+_, _≤_, _<_}
 use mathlib.Core.List.{List, List·Memᴰ as Mem}
-use mathlib.Core.Path.{_≡_, sym, ap, subst, _∙_}
+use mathlib.Core.Path.{_≡_, sym, ap, ap₂, subst, _∙_}
 use native.Mathlib.Omega.{arith}
 use borrow.Author.Tests.{eqb-true, eqb-false}
 use lib.Dec.{eqb}
 use lib.IntN.{ℤ, pos, _-ℤ_}
 use lib.ListN.{length, getD, set}
 use lib.Seq.{getD-set-same, getD-set-other}
-use Rattle.rules.specs.Job.{Job, pieceCount, piece}
-use Rattle.rules.specs.Moments.{takesOff, latest}
+use Rattle.rules.specs.Words.{when}
+use Rattle.rules.specs.Job.{Job, pieceCount, piece, desk}
+use Rattle.rules.specs.Moments.{delay, takesOff, latest}
 use Rattle.rules.specs.Tables.{pieceIn, linkIn, noLink}
 use Rattle.rules.specs.declared.Link.{Link}
 use Rattle.laws.proofs.Latest.{asked-most, takes-off-most, latest-equation, latest-due, latest-after, latest-near}
@@ -25,8 +26,8 @@ use Rattle.links.proofs.LinkLaws.{job-pieces, job-links, job-piece, job-link, j
 use Rattle.moments.specs.Moments.{takesOffIn, leftBy, leastLeft, ToTimeOne, TimedOne, Timeable, timedJob}
 use Rattle.moments.proofs.LeastLaws.{left-start, left-each, left-most}
 
-module _ (n : ℕ) (durations dues afters lasts priors order : List ℕ)
-    (T : Timeable n durations dues afters lasts priors order) where
+module _ (n : ℕ) (desks durations dues afters handovers lasts priors order : List ℕ)
+    (T : Timeable n desks durations dues afters handovers lasts priors order) where
   abbrev J : Job
   J = timedJob T
 
@@ -34,13 +35,13 @@ module _ (n : ℕ) (durations dues afters lasts priors order : List ℕ)
   befores = T .befores
 
   as-many : pieceCount J ≡ n
-  as-many = job-pieces n (T .links) (T .desks) durations (T .releases) dues (T .befores) afters (T .handovers)
+  as-many = job-pieces n (T .links) desks durations (T .releases) dues (T .befores) afters handovers
 
   inside : (i : ℕ) → i < n → i < pieceCount J
   inside i l = omega (arith, as-many)
 
   ties : Ties n (T .links) (T .befores) afters
-  ties = job-ties n (T .links) (T .desks) durations (T .releases) dues (T .befores) afters (T .handovers) (T .sound)
+  ties = job-ties n (T .links) desks durations (T .releases) dues (T .befores) afters handovers (T .sound)
 
   pub few-pieces : n ≤ 256
   few-pieces = ties .few-pieces
@@ -54,8 +55,8 @@ module _ (n : ℕ) (durations dues afters lasts priors order : List ℕ)
     chained = T .walkable .chained;
   }
 
-  piece-at : (i : ℕ) → i < n → piece J i ≡ pieceIn (T .desks) durations (T .releases) dues i
-  piece-at = job-piece n (T .links) (T .desks) durations (T .releases) dues (T .befores) afters (T .handovers)
+  piece-at : (i : ℕ) → i < n → piece J i ≡ pieceIn desks durations (T .releases) dues i
+  piece-at = job-piece n (T .links) desks durations (T .releases) dues (T .befores) afters handovers
 
   due-is : (i : ℕ) → i < n → piece J i .due ≡ getD dues i 0
   unfolding pieceIn
@@ -63,20 +64,25 @@ module _ (n : ℕ) (durations dues afters lasts priors order : List ℕ)
 
   -- Link k of the tables is one of the job's.
   abbrev linkAt : ℕ → Link
-  linkAt = linkIn (T .befores) afters (T .handovers)
+  linkAt = linkIn (T .befores) afters handovers
 
   as-many-links : length (J .links) ≡ T .links
-  as-many-links = job-links n (T .links) (T .desks) durations (T .releases) dues (T .befores) afters (T .handovers)
+  as-many-links = job-links n (T .links) desks durations (T .releases) dues (T .befores) afters handovers
 
   link-at : (k : ℕ) → k < T .links → getD (J .links) k noLink ≡ linkAt k
-  link-at = job-link n (T .links) (T .desks) durations (T .releases) dues (T .befores) afters (T .handovers)
+  link-at = job-link n (T .links) desks durations (T .releases) dues (T .befores) afters handovers
 
   link-there : (k : ℕ) → k < T .links → Mem (linkAt k) (J .links)
   link-there k l = rw (link-at k l) at (place-mem noLink (J .links) k (omega (arith, as-many-links)))
 
-  off-is : (k : ℕ) → k < T .links → takesOff J (linkAt k) ≡ takesOffIn durations afters k
-  unfolding takesOff takesOffIn linkIn pieceIn
-  off-is k l = ap (λ p. p .duration) (piece-at (getD afters k 0) (ties .after-one k l))
+  off-is : (k i : ℕ) → k < T .links → getD befores k 0 ≡ i
+      → takesOff J (linkAt k) ≡ takesOffIn desks durations afters handovers i k
+  unfolding takesOff delay takesOffIn linkIn pieceIn
+  off-is k i l e =
+      let after = piece-at (getD afters k 0) (ties .after-one k l) in
+      let before = ap (desk J) e ∙ ap (λ p. p .desk) (piece-at i (omega (arith, e, ties .before-one k l))) in
+      ap₂ (λ (x y : ℕ). x + y) (ap (λ p. p .duration) after)
+      (ap₂ (λ (x y : ℕ). when (eqb x y) 0 (getD handovers k 0)) before (ap (λ p. p .desk) after))
 
   -- The pieces from place p of the order on have their latest moments.
   abbrev pub Done : ℕ → List ℤ → Type 0
@@ -102,15 +108,16 @@ module _ (n : ℕ) (durations dues afters lasts priors order : List ℕ)
         let later : p < w .0 = T .walkable .ordered .rises k l p (w .0) on (w .1) (sym e) (w .2) in
         rw (w .2) at (done (w .0) (omega arith) (w .1))
 
-    pub turn-asks : ToTimeOne i durations dues afters lasts priors moments
+    pub turn-asks : ToTimeOne i desks durations dues afters handovers lasts priors moments
     turn-asks = record {
       net = net;
       one = turn-inside;
       due-most = omega (arith, due-is i turn-inside, fits J (T .sound) i (inside i turn-inside) .due-most);
       leaves = λ k l e. record {
+        one = omega (arith, turn-inside, ties .few-pieces);
         here = omega (arith, ties .few-links);
         after-one = omega (arith, ties .after-one k l, ties .few-pieces);
-        small = rw (← (off-is k l)) (takes-off-most J (T .sound) (linkAt k) (link-there k l));
+        small = rw (← (off-is k i l e)) (takes-off-most J (T .sound) (linkAt k) (link-there k l));
         near = rw (follower k l e)
             (omega (arith, latest-near J (T .sound) (T .free) _ (inside _ (ties .after-one k l)) .abs-most));
       };
@@ -118,13 +125,13 @@ module _ (n : ℕ) (durations dues afters lasts priors order : List ℕ)
 
     -- What a link from it leaves, in the words of the rules.
     left-is : (k : ℕ) → k < T .links → getD befores k 0 ≡ i
-        → leftBy durations afters moments k ≡ (latest J (getD afters k 0) -ℤ pos (takesOff J (linkAt k)))
+        → leftBy desks durations afters handovers moments i k ≡ (latest J (getD afters k 0) -ℤ pos (takesOff J (linkAt k)))
     unfolding leftBy
-    left-is k l e = rw (follower k l e, off-is k l)
+    left-is k l e = rw (follower k l e, off-is k i l e)
 
-    module _ (r : ℤ) (timed : TimedOne i durations dues afters lasts priors moments r) where
+    module _ (r : ℤ) (timed : TimedOne i desks durations dues afters handovers lasts priors moments r) where
       abbrev f : ℕ → ℤ
-      f = leftBy durations afters moments
+      f = leftBy desks durations afters handovers moments i
 
       abbrev own : List ℕ
       own = placesWith befores i (T .links)

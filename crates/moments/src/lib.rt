@@ -1,5 +1,6 @@
 // Latest moments of all pieces, as signed numbers: from the last pieces back, in the order that the ring check found. When
 // a piece has its turn, the moments of all pieces after it are known, so each link is looked at once.
+use links::delay::delay;
 ghost use Prim.Native.Nat.{_<_, _≤_};
 ghost use mathlib.Core.Path.{_≡_};
 ghost use lib.IntN.{pos, _-ℤ_};
@@ -9,12 +10,24 @@ ghost use lib.ListN.{getD};
 ghost use Rattle.rules.specs.Words.{lesserZ};
 ghost use Rattle.moments.specs.Moments.{takesOffIn, leftBy, ToLeave, ToTimeOne, TimedOne, ToTime, Timed};
 
-// What link k takes off the latest moment of the piece before it: the follower's duration.
-fn takes_off(k: usize, durations: &[u16; 256], afters: &[u16; 1024]) -> i32
-    requires { ⌜ (k < 1024) × (getD (now afters) k 0 < 256) × (takesOffIn (now durations) (now afters) k ≤ 960) ⌝ }
-    ensures { λ r. ⌜ r ≡ pos (takesOffIn (now (durations .entry)) (now (afters .entry)) k) ⌝ }
+// What link k from piece i takes off: the follower's duration, and the delay of the link.
+fn takes_off(
+    i: usize,
+    k: usize,
+    desks: &[u8; 256],
+    durations: &[u16; 256],
+    afters: &[u16; 1024],
+    handovers: &[u16; 1024],
+) -> i32
+    requires { ⌜ (i < 256) × (k < 1024) × (getD (now afters) k 0 < 256)
+        × (takesOffIn (now desks) (now durations) (now afters) (now handovers) i k ≤ 1440) ⌝ }
+    ensures { λ r. ⌜ r ≡ pos (takesOffIn (now (desks .entry)) (now (durations .entry)) (now (afters .entry))
+        (now (handovers .entry)) i k) ⌝ }
 {
-    durations[afters[k] as usize] as i32
+    let a = afters[k] as usize;
+    let slots = numbers::wide(durations[a])
+        + delay(desks[i], desks[a], numbers::wide(handovers[k]));
+    slots as i32
 }
 
 // A moment less what is taken off it. It may lie below zero.
@@ -25,12 +38,24 @@ fn less(moment: i32, off: i32) -> i32
     moment - off
 }
 
-// What link k leaves the piece before it.
-fn left_by(k: usize, durations: &[u16; 256], afters: &[u16; 1024], moments: &[i32; 256]) -> i32
-    requires { ⌜ ToLeave k (now durations) (now afters) (now moments) ⌝ }
-    ensures { λ r. ⌜ r ≡ leftBy (now (durations .entry)) (now (afters .entry)) (now (moments .entry)) k ⌝ }
+// What link k leaves piece i, which it comes from.
+fn left_by(
+    i: usize,
+    k: usize,
+    desks: &[u8; 256],
+    durations: &[u16; 256],
+    afters: &[u16; 1024],
+    handovers: &[u16; 1024],
+    moments: &[i32; 256],
+) -> i32
+    requires { ⌜ ToLeave i k (now desks) (now durations) (now afters) (now handovers) (now moments) ⌝ }
+    ensures { λ r. ⌜ r ≡ leftBy (now (desks .entry)) (now (durations .entry)) (now (afters .entry)) (now (handovers .entry))
+        (now (moments .entry)) i k ⌝ }
 {
-    less(moments[afters[k] as usize], takes_off(k, durations, afters))
+    less(
+        moments[afters[k] as usize],
+        takes_off(i, k, desks, durations, afters, handovers),
+    )
 }
 
 fn lesser(a: i32, b: i32) -> i32
@@ -43,22 +68,28 @@ fn lesser(a: i32, b: i32) -> i32
 // links from it leave.
 fn piece_moment(
     i: usize,
+    desks: &[u8; 256],
     durations: &[u16; 256],
     dues: &[u32; 256],
     afters: &[u16; 1024],
+    handovers: &[u16; 1024],
     lasts: &[u16; 256],
     priors: &[u16; 1024],
     moments: &[i32; 256],
 ) -> i32
-    requires { ⌜ ToTimeOne i (now durations) (now dues) (now afters) (now lasts) (now priors) (now moments) ⌝ }
-    ensures { λ r. ⌜ TimedOne i (now (durations .entry)) (now (dues .entry)) (now (afters .entry)) (now (lasts .entry))
-        (now (priors .entry)) (now (moments .entry)) r ⌝ }
+    requires { ⌜ ToTimeOne i (now desks) (now durations) (now dues) (now afters) (now handovers) (now lasts) (now priors)
+        (now moments) ⌝ }
+    ensures { λ r. ⌜ TimedOne i (now (desks .entry)) (now (durations .entry)) (now (dues .entry)) (now (afters .entry))
+        (now (handovers .entry)) (now (lasts .entry)) (now (priors .entry)) (now (moments .entry)) r ⌝ }
 {
     let mut least = dues[i] as i32;
     let mut at = lasts[i] as usize;
     while at != 0 {
         let k = at - 1;
-        least = lesser(least, left_by(k, durations, afters, moments));
+        least = lesser(
+            least,
+            left_by(i, k, desks, durations, afters, handovers, moments),
+        );
         at = priors[k] as usize;
     }
     least
@@ -67,22 +98,35 @@ fn piece_moment(
 // The latest moment of each piece.
 pub fn latest_moments(
     pieces: usize,
+    desks: &[u8; 256],
     durations: &[u16; 256],
     dues: &[u32; 256],
     afters: &[u16; 1024],
+    handovers: &[u16; 1024],
     lasts: &[u16; 256],
     priors: &[u16; 1024],
     order: &[u16; 256],
     moments: &mut [i32; 256],
 )
-    requires { ⌜ ToTime pieces (now durations) (now dues) (now afters) (now lasts) (now priors) (now order) (now moments) ⌝ }
-    ensures { λ r. ⌜ Timed pieces (now (durations .entry)) (now (dues .entry)) (now (afters .entry)) (now (lasts .entry))
-        (now (priors .entry)) (now (order .entry)) (now (moments .exit)) ⌝ }
+    requires { ⌜ ToTime pieces (now desks) (now durations) (now dues) (now afters) (now handovers) (now lasts) (now priors)
+        (now order) (now moments) ⌝ }
+    ensures { λ r. ⌜ Timed pieces (now (desks .entry)) (now (durations .entry)) (now (dues .entry)) (now (afters .entry))
+        (now (handovers .entry)) (now (lasts .entry)) (now (priors .entry)) (now (order .entry)) (now (moments .exit)) ⌝ }
 {
     let mut p = pieces;
     while 0 < p {
         p -= 1;
         let i = order[p] as usize;
-        moments[i] = piece_moment(i, durations, dues, afters, lasts, priors, moments);
+        moments[i] = piece_moment(
+            i,
+            desks,
+            durations,
+            dues,
+            afters,
+            handovers,
+            lasts,
+            priors,
+            moments,
+        );
     }
 }

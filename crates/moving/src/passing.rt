@@ -1,5 +1,6 @@
 // What the links of a finished piece do to the pieces after them: each waits for one less, and is ready no sooner than
 // the delay allows. A piece that waits for none any more is open, and is put behind the open pieces in `table`.
+use links::delay::delay;
 ghost use mathlib.Core.Path.{_≡_};
 ghost use Prim.Native.Nat.{_+_, _<_, _≤_};
 ghost use lib.Dec.{eqb};
@@ -8,13 +9,6 @@ ghost use Rattle.rules.specs.Words.{when};
 ghost use Rattle.links.specs.Chains.{Chained};
 ghost use Rattle.steps.specs.Handover.{Named, ties, waiting, passed, passFrom};
 ghost use Rattle.steps.specs.Opening.{Room, Opens};
-
-// The delay of a link: nothing on one desk.
-fn delay(before: u8, after: u8, handover: u32) -> u32
-    ensures { λ r. ⌜ (r ≡ when (eqb before after) 0 handover) × (r ≤ handover) ⌝ }
-{
-    if before == after { 0 } else { handover }
-}
 
 // The piece before link k was finished at moment c.
 fn pass(

@@ -37,22 +37,20 @@ module _ (n m : ℕ) (desks durations releases dues befores afters handovers las
   free-here : ringPiece (jobIn n m desks durations releases dues befores afters handovers) ≡ none
   free-here = accepted-free (P .file) _ (P .says)
 
-  abbrev timeable : Timeable n durations dues afters lasts priors order
+  abbrev timeable : Timeable n desks durations dues afters handovers lasts priors order
   timeable = record {
     links = m;
-    desks = desks;
     releases = releases;
     befores = befores;
-    handovers = handovers;
     sound = sound-here;
     free = free-here;
     walkable = P .walkable;
   }
 
-  pub to-time : (moments : List ℤ) → length moments ≡ 256 → ToTime n durations dues afters lasts priors order moments
+  pub to-time : (moments : List ℤ) → length moments ≡ 256 → ToTime n desks durations dues afters handovers lasts priors order moments
   to-time moments sized = record { timeable = timeable; sized = sized }
 
-  module _ (latests : List ℤ) (timed : Timed n durations dues afters lasts priors order latests) where
+  module _ (latests : List ℤ) (timed : Timed n desks durations dues afters handovers lasts priors order latests) where
     pub given-here : Given (jobIn n m desks durations releases dues befores afters handovers) n latests
     given-here = record {
       sound = sound-here;

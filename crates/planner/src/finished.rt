@@ -38,7 +38,18 @@ pub fn finish_plan(
         (now (starts .exit)) (now (finishes .exit)) (now (latests .exit)) (now (pieces .exit)) (now (froms .exit))
         (now (untils .exit)) r ⌝ }
 {
-    latest_moments(n, durations, dues, afters, lasts, priors, order, latests);
+    latest_moments(
+        n,
+        desks,
+        durations,
+        dues,
+        afters,
+        handovers,
+        lasts,
+        priors,
+        order,
+        latests,
+    );
     urgency::plan(
         n,
         m,

@@ -1,6 +1,6 @@
 -- "Latest moments and ready moments", from equations (4.2) and (4.3) of the paper, links in any numbering. What a ready
 -- piece is in the midst of a plan stands with the plan by urgency; the moments of a finished plan with the block method.
-use Prim.Native.Nat.{ℕ, zero, suc}
+use Prim.Native.Nat.{ℕ, zero, suc, _+_}
 use mathlib.Core.Bool.{Bool, _&&_, _||_}
 use mathlib.Core.List.{map}
 use lib.Dec.{ltb, eqb}
@@ -15,9 +15,10 @@ unfoldable pub delay : Job → Link → ℕ
 unfolding when
 delay J l = when (eqb (desk J (l .before)) (desk J (l .after))) 0 (l .handover)
 
--- What a follower takes off its own latest moment for the piece before it: its duration.
+-- What a follower takes off its own latest moment for the piece before it: its duration and the delay of the link.
 unfoldable pub takesOff : Job → Link → ℕ
-takesOff J l = duration J (l .after)
+unfolding delay
+takesOff J l = duration J (l .after) + delay J l
 
 -- The latest moment of piece i, chains of up to so many links followed: the least of its own due and, over each piece
 -- after it, that piece's latest moment less what it takes off. It may lie below zero and stays a signed number.

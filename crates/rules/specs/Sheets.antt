@@ -60,12 +60,12 @@ P1 = record {
       ++ hex "01 01 0300 00000000 0C000000 00000000" ++ hex "02 00 0000 0200 0200 00000000 00000000";
   room = 160;
   answer = answered 3 4 11 (minus 0);
-  buffer = hex "11 00 0000 00000000 06000000 09000000" ++ hex "11 00 0100 01000000 03000000 05000000"
+  buffer = hex "11 00 0000 00000000 06000000 07000000" ++ hex "11 00 0100 01000000 03000000 05000000"
       ++ hex "11 01 0200 08000000 0B000000 0C000000" ++ hex "12 00 0000 00000000 01000000 00000000"
       ++ hex "12 00 0100 01000000 03000000 00000000" ++ hex "12 00 0000 03000000 06000000 00000000"
       ++ hex "12 01 0200 08000000 0B000000 00000000" ++ marks 48;
   blocks = [];
-  text = letters "piece 0 desk 0 start 0 finish 6 latest 9 late -3\n"
+  text = letters "piece 0 desk 0 start 0 finish 6 latest 7 late -1\n"
       ++ letters "piece 1 desk 0 start 1 finish 3 latest 5 late -2\n"
       ++ letters "piece 2 desk 1 start 8 finish 11 latest 12 late -1\n"
       ++ letters "run desk 0 piece 0 from 0 until 1\n" ++ letters "run desk 0 piece 1 from 1 until 3\n"
@@ -164,7 +164,7 @@ P7 = record {
       ++ hex "02 00 0000 0100 0000 00000000 00000000" ++ hex "02 00 0100 0200 0100 00000000 00000000";
   room = 208;
   answer = answered 4 5 9 (minus 13);
-  buffer = hex "11 00 0000 00000000 02000000 11000000" ++ hex "11 01 0100 02000000 03000000 12000000"
+  buffer = hex "11 00 0000 00000000 02000000 10000000" ++ hex "11 01 0100 02000000 03000000 11000000"
       ++ hex "11 00 0200 04000000 06000000 14000000" ++ hex "11 00 0300 02000000 09000000 32000000"
       ++ hex "12 00 0000 00000000 02000000 00000000" ++ hex "12 00 0300 02000000 04000000 00000000"
       ++ hex "12 00 0200 04000000 06000000 00000000" ++ hex "12 00 0300 06000000 09000000 00000000"
@@ -176,8 +176,8 @@ P7 = record {
         ++ hex "12 00 0000 00000000 02000000 00000000" ++ hex "12 00 0300 02000000 04000000 00000000"
         ++ hex "12 00 0200 04000000 06000000 00000000" ++ hex "12 00 0300 06000000 09000000 00000000" ++ marks 128;
   } ∷ [];
-  text = letters "piece 0 desk 0 start 0 finish 2 latest 17 late -15\n"
-      ++ letters "piece 1 desk 1 start 2 finish 3 latest 18 late -15\n"
+  text = letters "piece 0 desk 0 start 0 finish 2 latest 16 late -14\n"
+      ++ letters "piece 1 desk 1 start 2 finish 3 latest 17 late -14\n"
       ++ letters "piece 2 desk 0 start 4 finish 6 latest 20 late -14\n"
       ++ letters "piece 3 desk 0 start 2 finish 9 latest 50 late -41\n"
       ++ letters "run desk 0 piece 0 from 0 until 2\n" ++ letters "run desk 0 piece 3 from 2 until 4\n"

@@ -9,12 +9,12 @@ use desk::{listing, LISTING_ROOM};
 fn p1() {
     let file = file(&[(0, 4, 0, 20), (0, 2, 1, 5), (1, 3, 0, 12)], &[(0, 2, 2)]);
     let runs = [run(0, 0, 0, 1), run(0, 1, 1, 3), run(0, 0, 3, 6), run(1, 2, 8, 11)];
-    let results = [result(0, 0, 0, 6, 9), result(0, 1, 1, 3, 5), result(1, 2, 8, 11, 12)];
+    let results = [result(0, 0, 0, 6, 7), result(0, 1, 1, 3, 5), result(1, 2, 8, 11, 12)];
     let (answer, rows) = planned(&file);
     assert_eq!(answer, plan_answer(3, 4, 11, -1));
     assert_eq!(rows, [&results[..], &runs].concat());
     let (answer, rows) = sheet(&file, 0);
-    assert_eq!(answer, block_answer(1, 3, -2));
+    assert_eq!(answer, block_answer(1, 3, -1));
     assert_eq!(rows, [&[block(0, 2, 0, 6)], &runs[..3]].concat());
     let (answer, rows) = sheet(&file, 1);
     assert_eq!(answer, block_answer(1, 1, -1));
@@ -27,7 +27,7 @@ fn the_listing_of_p1() {
     let mut text = vec![0; LISTING_ROOM].try_into().expect("as long as the room");
     let file = file(&[(0, 4, 0, 20), (0, 2, 1, 5), (1, 3, 0, 12)], &[(0, 2, 2)]);
     let lines = [
-        "piece 0 desk 0 start 0 finish 6 latest 9 late -3",
+        "piece 0 desk 0 start 0 finish 6 latest 7 late -1",
         "piece 1 desk 0 start 1 finish 3 latest 5 late -2",
         "piece 2 desk 1 start 8 finish 11 latest 12 late -1",
         "run desk 0 piece 0 from 0 until 1",
@@ -89,6 +89,8 @@ fn p7() {
     let pieces = [(0, 2, 0, 20), (1, 1, 0, 20), (0, 2, 0, 20), (0, 5, 0, 50)];
     let file = file(&pieces, &[(0, 1, 0), (1, 2, 1)]);
     let runs = [run(0, 0, 0, 2), run(0, 3, 2, 4), run(0, 2, 4, 6), run(0, 3, 6, 9)];
+    let results = [result(0, 0, 0, 2, 16), result(1, 1, 2, 3, 17), result(0, 2, 4, 6, 20)];
+    assert_eq!(planned(&file).1[..3], results);
     assert_eq!(planned(&file).1[4..8], runs);
     let (answer, rows) = sheet(&file, 0);
     assert_eq!(answer, block_answer(1, 4, -14));

@@ -115,8 +115,8 @@ fn the_last_moment_there_can_be() {
     let answer = plan(&file, &mut buffer);
     assert_eq!((answer.number, answer.runs, answer.end), (0, 256, 408_160));
     let rows = front_rows(&buffer, 512);
-    // The chain's last due is 0, so piece 0 should have been finished 255 x 960 slots before.
-    assert_eq!(rows[0], (17, 0, 0, 40_000, 40_960, -244_800));
+    // The chain's last due is 0, so piece 0 should have been finished 255 x (960 + 480) slots before.
+    assert_eq!(rows[0], (17, 0, 0, 40_000, 40_960, -367_200));
     assert_eq!(rows[255], (17, 1, 255, 407_200, 408_160, 0));
     assert_eq!(answer.worst, 408_160);
     let sheet = blocks(&file, 1, &mut buffer);

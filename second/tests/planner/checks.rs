@@ -42,8 +42,9 @@ impl Facts {
             return latest;
         }
         let mut latest = self.pieces[piece][3];
-        for after in self.links.iter().filter(|link| link.0 == piece).map(|link| link.1) {
-            latest = latest.min(self.latest(after, known) - self.pieces[after][1]);
+        for &(_, after, handover) in self.links.iter().filter(|link| link.0 == piece) {
+            let delay = if self.desk(piece) == self.desk(after) { 0 } else { handover };
+            latest = latest.min(self.latest(after, known) - self.pieces[after][1] - delay);
         }
         known[piece] = Some(latest);
         latest
@@ -92,7 +93,7 @@ pub fn plan(facts: &Facts, answer: &PlanAnswer, before: &[u8], after: &[u8]) -> 
         assert_eq!(Some(finish), own().map(|run| run.4).max());
         let worked: i32 = own().map(|run| run.4 - run.3).sum();
         assert_eq!(i64::from(worked), facts.pieces[piece][1]);
-        assert!((1..=408_160).contains(&finish) && (-244_800..=40_000).contains(&latest));
+        assert!((1..=408_160).contains(&finish) && (-367_200..=40_000).contains(&latest));
     }
     assert!(runs.iter().all(|run| run.0 == 18 && run.3 < run.4 && run.5 == 0));
     for pair in runs.windows(2).filter(|pair| pair[0].1 == pair[1].1) {

@@ -48,7 +48,7 @@ fn p1_bytes_are_those_of_the_page() {
 #[test]
 fn p1_plan_and_whole_buffer() {
     let records = [
-        0x11, 0, 0, 0, 0, 0, 0, 0, 6, 0, 0, 0, 9, 0, 0, 0, // piece 0
+        0x11, 0, 0, 0, 0, 0, 0, 0, 6, 0, 0, 0, 7, 0, 0, 0, // piece 0
         0x11, 0, 1, 0, 1, 0, 0, 0, 3, 0, 0, 0, 5, 0, 0, 0, // piece 1
         0x11, 1, 2, 0, 8, 0, 0, 0, 11, 0, 0, 0, 12, 0, 0, 0, // piece 2
         0x12, 0, 0, 0, 0, 0, 0, 0, 1, 0, 0, 0, 0, 0, 0, 0, // desk 0: piece 0
@@ -68,7 +68,7 @@ fn p1_plan_and_whole_buffer() {
 fn p1_block_sheets() {
     let runs = [(18, 0, 0, 0, 1, 0), (18, 0, 1, 1, 3, 0), (18, 0, 0, 3, 6, 0)];
     let desk_0 = [&[(19, 0, 2, 0, 6, 0)][..], &runs].concat();
-    expect_blocks(&P1, 3, 0, [1, 3, -2], &desk_0);
+    expect_blocks(&P1, 3, 0, [1, 3, -1], &desk_0);
     expect_blocks(&P1, 3, 1, [1, 1, -1], &[(19, 1, 1, 8, 11, 0), (18, 1, 2, 8, 11, 0)]);
     expect_blocks(&P1, 3, 2, [0, 0, 0], &[]);
 }
@@ -76,7 +76,7 @@ fn p1_block_sheets() {
 #[test]
 fn p1_listing() {
     let text = "\
-piece 0 desk 0 start 0 finish 6 latest 9 late -3
+piece 0 desk 0 start 0 finish 6 latest 7 late -1
 piece 1 desk 0 start 1 finish 3 latest 5 late -2
 piece 2 desk 1 start 8 finish 11 latest 12 late -1
 run desk 0 piece 0 from 0 until 1
@@ -149,14 +149,14 @@ fn p6_handover_on_one_desk_is_nothing() {
 fn p7_ready_moments_from_another_desk() {
     let file = sheet("0/2/0/20, 1/1/0/20, 0/2/0/20, 0/5/0/50; 0>1+0, 1>2+1");
     let results =
-        [(17, 0, 0, 0, 2, 17), (17, 1, 1, 2, 3, 18), (17, 0, 2, 4, 6, 20), (17, 0, 3, 2, 9, 50)];
+        [(17, 0, 0, 0, 2, 16), (17, 1, 1, 2, 3, 17), (17, 0, 2, 4, 6, 20), (17, 0, 3, 2, 9, 50)];
     let runs_0 =
         [(18, 0, 0, 0, 2, 0), (18, 0, 3, 2, 4, 0), (18, 0, 2, 4, 6, 0), (18, 0, 3, 6, 9, 0)];
     let runs_1 = [(18, 1, 1, 2, 3, 0)];
     expect_plan(&file, [4, 5, 9, -14], &[&results[..], &runs_0, &runs_1].concat());
     let desk_0 = [&[(19, 0, 3, 0, 9, 0)][..], &runs_0].concat();
     expect_blocks(&file, 4, 0, [1, 4, -14], &desk_0);
-    expect_blocks(&file, 4, 1, [1, 1, -15], &[&[(19, 1, 1, 2, 3, 0)][..], &runs_1].concat());
+    expect_blocks(&file, 4, 1, [1, 1, -14], &[&[(19, 1, 1, 2, 3, 0)][..], &runs_1].concat());
 }
 
 #[test]

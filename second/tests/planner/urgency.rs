@@ -41,8 +41,11 @@ fn the_own_due_counts_where_it_is_earlier() {
 }
 
 #[test]
-fn the_handover_is_no_part_of_the_latest_moment() {
+fn the_handover_between_desks_is_part_of_the_latest_moment() {
     let (_, latest) = planned("0/2/0/30, 1/3/0/20; 0>1+9");
+    assert_eq!(latest, [8, 20]);
+    // On one desk it is 0.
+    let (_, latest) = planned("1/2/0/30, 1/3/0/20; 0>1+9");
     assert_eq!(latest, [17, 20]);
 }
 

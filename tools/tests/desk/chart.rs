@@ -17,7 +17,7 @@ desk 0  000011111111000000000000....................
 desk 1  ................................222222222222
 
    piece  desk  start  finish   latest
-0      0     0      0       6        9  3 slots early
+0      0     0      0       6        7  1 slot early
 1      1     0      1       3        5  2 slots early
 2      2     1      8      11       12  1 slot early
 

@@ -9,7 +9,7 @@ fn the_first_sheet() {
     let piece = |desk, start, finish, latest, late| Piece { desk, start, finish, latest, late };
     let run = |desk, piece, from, until| Run { desk, piece, from, until };
     let expected = Plan {
-        pieces: vec![piece(0, 0, 6, 9, -3), piece(0, 1, 3, 5, -2), piece(1, 8, 11, 12, -1)],
+        pieces: vec![piece(0, 0, 6, 7, -1), piece(0, 1, 3, 5, -2), piece(1, 8, 11, 12, -1)],
         runs: vec![run(0, 0, 0, 1), run(0, 1, 1, 3), run(0, 0, 3, 6), run(1, 2, 8, 11)],
         end: 11,
         worst: -1,
@@ -54,7 +54,7 @@ fn mistakes_are_told() {
     assert_eq!(changed(" finish 6", ""), "line 1: the line has no finish");
     assert_eq!(changed("start 0", "start zero"), "line 1: start 'zero' is not a whole number");
     assert_eq!(
-        changed("late -3", "late 3"),
+        changed("latest 7 late -1", "latest 7 late 1"),
         "line 1: late is not the finish less the latest moment"
     );
     assert_eq!(

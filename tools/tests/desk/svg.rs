@@ -23,9 +23,9 @@ fn the_first_sheet_has_its_title_and_its_boxes() {
     assert!(picture.contains(">No piece is late; the tightest is 1 slot (15 min) early.</text>"));
     // Desk 0 has its row at 100 and its boxes from 104, desk 1 a row of 34 further down.
     for (left, top, width, told) in [
-        ("100.00", 104, "80.00", "piece 0: slots 0 to 1 (15 min), 3 slots early"),
+        ("100.00", 104, "80.00", "piece 0: slots 0 to 1 (15 min), 1 slot early"),
         ("180.00", 104, "160.00", "piece 1: slots 1 to 3 (30 min), 2 slots early"),
-        ("340.00", 104, "240.00", "piece 0: slots 3 to 6 (45 min), 3 slots early"),
+        ("340.00", 104, "240.00", "piece 0: slots 3 to 6 (45 min), 1 slot early"),
         ("740.00", 138, "240.00", "piece 2: slots 8 to 11 (45 min), 1 slot early"),
     ] {
         let start = format!(

@@ -34,17 +34,17 @@ computed : (c : tie.After-takes-off) →
     let a = c .before .before .before .args in
     (toZ w32 (ofZ w32 (getD (a .moments .now) (getD (a .afters .now) (a .k) 0) (pos 0)))
     -ℤ toZ w32 (ofZ w32 (c .takes-off .result)))
-    ≡ leftBy (a .durations .now) (a .afters .now) (a .moments .now) (a .k)
+    ≡ leftBy (a .desks .now) (a .durations .now) (a .afters .now) (a .handovers .now) (a .moments .now) (a .i) (a .k)
 unfolding leftBy
 computed c =
     rw (
-      toZ-ofZ (moment-fits _ _ _ _ (c .before .before .before .pre)),
+      toZ-ofZ (moment-fits _ _ _ _ _ _ _ (c .before .before .before .pre)),
       toZ-ofZ {w = w32} {z = c .takes-off .result} (record { sfits = c .takes-off .ok }),
       c .takes-off .ensures,
     )
 
 less-requires : tie.Need-less-requires
-less-requires c κs = rw (computed c) (left-fits _ _ _ _ (c .before .before .before .pre))
+less-requires c κs = rw (computed c) (left-fits _ _ _ _ _ _ _ (c .before .before .before .pre))
 
 returns : tie.Need-returns
 returns c =

@@ -4,7 +4,7 @@ use Prim.Native.Nat.{ℕ, _-_, _<_}
 use mathlib.Core.List.{_∷_}
 use mathlib.Core.Path.{_≡_, ap, _∙_}
 use native.Mathlib.Omega.{arith}
-use lib.IntN.{pos}
+use lib.IntN.{ℤ, pos}
 use lib.ListN.{getD}
 use mir.Syntax.{w32}
 use mir.Val.{toZ, ofZ}
@@ -18,13 +18,13 @@ use Rattle.moments.proofs.piece_moment.Statement.{statement}
 use Rattle.moments.proofs.piece_moment.Tie as tie
 
 abbrev Inv-loop : tie.InvT-loop
-Inv-loop i durations dues afters lasts priors moments least₀ at₀ least at =
+Inv-loop i desks durations dues afters handovers lasts priors moments least₀ at₀ least at =
     (N : Net afters lasts priors) → i < N .pieces → (bound : ℕ) × OnChain (N .befores) i (N .links) at bound
-    × (leastLeft (leftBy durations afters moments) (toZ w32 least) (placesWith (N .befores) i bound)
-    ≡ leastLeft (leftBy durations afters moments) (pos (getD dues i 0)) (placesWith (N .befores) i (N .links)))
+    × (leastLeft (leftBy desks durations afters handovers moments i) (toZ w32 least) (placesWith (N .befores) i bound)
+    ≡ leastLeft (leftBy desks durations afters handovers moments i) (pos (getD dues i 0)) (placesWith (N .befores) i (N .links)))
 
 abbrev μ-loop : tie.MeasureT-loop
-μ-loop i durations dues afters lasts priors moments least₀ at₀ least at = at
+μ-loop i desks durations dues afters handovers lasts priors moments least₀ at₀ least at = at
 
 -- The piece stands inside the tables.
 small : (s : tie.Start Inv-loop μ-loop) → s .args .i < 256
@@ -64,12 +64,16 @@ loop-holds c = λ N one.
 abbrev entry : tie.In-loop Inv-loop μ-loop → tie.Start Inv-loop μ-loop
 entry c = c .before .before .before .before
 
+abbrev lefts : tie.In-loop Inv-loop μ-loop → ℕ → ℤ
+lefts c = let a = entry c .args in
+    leftBy (a .desks .now) (a .durations .now) (a .afters .now) (a .handovers .now) (a .moments .now) (a .i)
+
 module _ (c : tie.In-loop Inv-loop μ-loop) (N : Net (entry c .args .afters .now) (entry c .args .lasts .now)
     (entry c .args .priors .now)) (one : entry c .args .i < N .pieces) where
   abbrev walk : (bound : ℕ) × OnChain (N .befores) (entry c .args .i) (N .links) (c .before .loop .at) bound
-      × (leastLeft (leftBy (entry c .args .durations .now) (entry c .args .afters .now) (entry c .args .moments .now))
+      × (leastLeft (lefts c)
       (toZ w32 (c .before .loop .least)) (placesWith (N .befores) (entry c .args .i) bound)
-      ≡ leastLeft (leftBy (entry c .args .durations .now) (entry c .args .afters .now) (entry c .args .moments .now))
+      ≡ leastLeft (lefts c)
       (pos (getD (entry c .args .dues .now) (entry c .args .i) 0)) (placesWith (N .befores) (entry c .args .i) (N .links)))
   walk = c .before .loop .inv N one
 
@@ -107,10 +111,9 @@ lesser-requires c κs = tt
 -- The least so far with what the link leaves.
 lessened : (c : tie.After-lesser Inv-loop μ-loop) →
     let t = c .before .before in
-    let a = entry t .args in
     toZ w32 (ofZ w32 (c .lesser .result))
     ≡ lesserZ (toZ w32 (t .before .loop .least))
-    (leftBy (a .durations .now) (a .afters .now) (a .moments .now) (t .before .loop .at - 1))
+    (lefts t (t .before .loop .at - 1))
 lessened c =
     let l = c .before .left-by in
     toZ-ofZ {w = w32} {z = c .lesser .result} (record { sfits = c .lesser .ok }) ∙ c .lesser .ensures

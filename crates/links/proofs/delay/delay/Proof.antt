@@ -3,8 +3,8 @@ use mathlib.Core.Path.{sym}
 use native.Mathlib.Omega.{arith}
 use borrow.Author.Tests.{eq-eqb, ne-eqb}
 use Rattle.laws.proofs.Words.{when-true, when-false}
-use Rattle.moving.proofs.passing.delay.Statement.{statement}
-use Rattle.moving.proofs.passing.delay.Tie as tie
+use Rattle.links.proofs.delay.delay.Statement.{statement}
+use Rattle.links.proofs.delay.delay.Tie as tie
 
 returns : tie.Need-returns
 returns c = (sym (when-true _ _ _ (eq-eqb _ _ (c .if1 .taken))), omega arith)
