@@ -1,7 +1,3 @@
-// What the plan does from one decision moment to the next, over lent tables: the slots worked, the runs noted,
-// the links of the pieces that are finished, and the table of the open pieces.
-pub mod handover;
+// What the desks do from one decision moment to the next, over lent tables: the slots worked, and the runs noted.
 pub mod log;
-pub mod passing;
-pub mod table;
 pub mod work;

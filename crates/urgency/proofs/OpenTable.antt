@@ -16,7 +16,7 @@ use Rattle.links.proofs.QueueLaws.{queue-most}
 use Rattle.steps.specs.Choice.{View, Choice, LookedAt}
 use Rattle.steps.specs.Opening.{Among, unfinished, Opening, Markable, Working, spentTo}
 use Rattle.steps.specs.Work.{Work, workTo}
-use Rattle.moving.proofs.Opened.{opening-alike}
+use Rattle.handing.proofs.Opened.{opening-alike}
 
 -- Before the first slot every piece is unfinished.
 pub markable : (n opened : ℕ) (table place waits : List ℕ) → n ≤ 256 → length place ≡ 256 → Queue n opened table waits

@@ -19,7 +19,7 @@ use Rattle.links.specs.Links.{linksTo}
 use Rattle.slots.specs.Stretch.{at}
 use Rattle.slots.proofs.Ended.{Ended, ended-same, ended-runs}
 use Rattle.slots.proofs.Growth.{runs-grown}
-use Rattle.moving.proofs.Opened.{opened-few}
+use Rattle.handing.proofs.Opened.{opened-few}
 use Rattle.steps.specs.Choice.{View, view, Decided, never}
 use Rattle.steps.specs.Handover.{Named, ties, Waiting, waiting, handTo}
 use Rattle.steps.specs.Log.{Log, log, noteTo}

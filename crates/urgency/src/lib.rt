@@ -4,9 +4,9 @@
 pub mod keys;
 
 use crate::keys::rank;
-use moving::handover;
+use handing::handover;
+use handing::table::mark;
 use moving::log;
-use moving::table::mark;
 use moving::work;
 ghost use mathlib.Core.Path.{_≡_};
 ghost use Prim.Native.Nat.{_≤_};

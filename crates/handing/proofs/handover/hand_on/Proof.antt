@@ -7,10 +7,10 @@ use borrow.Author.Tests.{lt-ltb, le-ltb}
 use lib.ListN.{getD}
 use Rattle.steps.specs.Handover.{Ties, ties, Waiting, waiting}
 use Rattle.steps.specs.Opening.{Closable}
-use Rattle.moving.proofs.Closed.{still-open, closed-room}
-use Rattle.moving.proofs.Passed.{unfinished-hands, finished-hands}
-use Rattle.moving.proofs.handover.hand_on.Statement.{statement}
-use Rattle.moving.proofs.handover.hand_on.Tie as tie
+use Rattle.handing.proofs.Closed.{still-open, closed-room}
+use Rattle.handing.proofs.Passed.{unfinished-hands, finished-hands}
+use Rattle.handing.proofs.handover.hand_on.Statement.{statement}
+use Rattle.handing.proofs.handover.hand_on.Tie as tie
 
 -- The links' tables, and the tables that they change, as the function finds them.
 abbrev tied : tie.Start → Ties

@@ -2,10 +2,10 @@
 use Prim.Native.Nat.{_-_, _≤_, _<_}
 use native.Mathlib.Omega.{arith}
 use lib.ListN.{getD}
-use Rattle.moving.proofs.Opened.{opened-few}
-use Rattle.moving.proofs.Closed.{p-in, i-in, last-in, closes}
-use Rattle.moving.proofs.table.close.Statement.{statement}
-use Rattle.moving.proofs.table.close.Tie as tie
+use Rattle.handing.proofs.Opened.{opened-few}
+use Rattle.handing.proofs.Closed.{p-in, i-in, last-in, closes}
+use Rattle.handing.proofs.table.close.Statement.{statement}
+use Rattle.handing.proofs.table.close.Tie as tie
 
 -- The piece, its place and the last piece are inside the tables.
 few : (s : tie.Start) → s .args .opened ≤ 256

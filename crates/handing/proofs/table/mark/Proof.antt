@@ -3,9 +3,9 @@ use Prim.Native.Nat.{ℕ, _-_, _≤_, _<_}
 use mathlib.Core.Path.{_≡_, _∙_}
 use native.Mathlib.Omega.{arith}
 use lib.ListN.{length, getD, length-set}
-use Rattle.moving.proofs.Marked.{marked-more}
-use Rattle.moving.proofs.table.mark.Statement.{statement}
-use Rattle.moving.proofs.table.mark.Tie as tie
+use Rattle.handing.proofs.Marked.{marked-more}
+use Rattle.handing.proofs.table.mark.Statement.{statement}
+use Rattle.handing.proofs.table.mark.Tie as tie
 
 abbrev Inv-loop : tie.InvT-loop
 Inv-loop opened table place₀ k₀ place k =

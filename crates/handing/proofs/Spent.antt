@@ -9,7 +9,7 @@ use borrow.Author.Tests.{eq-eqb, ne-eqb}
 use lib.ListN.{getD}
 use Rattle.laws.proofs.Words.{when-true, when-false}
 use Rattle.steps.specs.Opening.{Among, Opening, Room, Hands, Working, spentTo, unfinished}
-use Rattle.moving.proofs.Opened.{opening-alike}
+use Rattle.handing.proofs.Opened.{opening-alike}
 
 module _ (m : ℕ) (afters : List ℕ) (count : ℕ) (chosen busy left : List ℕ) (opened : ℕ) (table place waits : List ℕ) where
   pub record Spent (q opened′ : ℕ) (table′ place′ waits′ : List ℕ) : Type 0 where

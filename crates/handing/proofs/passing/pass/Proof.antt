@@ -6,10 +6,10 @@ use native.Mathlib.Omega.{arith}
 use borrow.Author.Needs.{needs}
 use lib.ListN.{getD, set}
 use Rattle.steps.specs.Handover.{ties, waiting, passed}
-use Rattle.moving.proofs.Passed.{passed-on, delay-is}
-use Rattle.moving.proofs.Opened.{waits-on, opens, opened-stays, place-left}
-use Rattle.moving.proofs.passing.pass.Statement.{statement}
-use Rattle.moving.proofs.passing.pass.Tie as tie
+use Rattle.handing.proofs.Passed.{passed-on, delay-is}
+use Rattle.handing.proofs.Opened.{waits-on, opens, opened-stays, place-left}
+use Rattle.handing.proofs.passing.pass.Statement.{statement}
+use Rattle.handing.proofs.passing.pass.Tie as tie
 
 -- The piece after the link is one of the tables'.
 after-in : (s : tie.Start) → getD (s .args .afters .now) (s .args .k) 0 < 256

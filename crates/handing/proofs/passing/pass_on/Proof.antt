@@ -7,10 +7,10 @@ use native.Mathlib.Omega.{arith}
 use Rattle.links.specs.Chains.{lastWith}
 use Rattle.steps.specs.Handover.{Ties, ties, waiting, passFrom}
 use Rattle.steps.specs.Opening.{Opens}
-use Rattle.moving.proofs.Opened.{opens-none, opens-then, room-then}
-use Rattle.moving.proofs.Passed.{Onward, last-found, last-nothing, last-most}
-use Rattle.moving.proofs.passing.pass_on.Statement.{statement}
-use Rattle.moving.proofs.passing.pass_on.Tie as tie
+use Rattle.handing.proofs.Opened.{opens-none, opens-then, room-then}
+use Rattle.handing.proofs.Passed.{Onward, last-found, last-nothing, last-most}
+use Rattle.handing.proofs.passing.pass_on.Statement.{statement}
+use Rattle.handing.proofs.passing.pass_on.Tie as tie
 
 abbrev Inv-loop : tie.InvT-loop
 Inv-loop m p c opened desks befores afters handovers last prior waits₀ ready₀ table₀ place₀ held₀ next₀ waits ready table

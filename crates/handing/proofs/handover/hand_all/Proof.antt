@@ -6,10 +6,10 @@ use native.Mathlib.Omega.{arith}
 use lib.ListN.{getD}
 use Rattle.steps.specs.Handover.{ties, waiting, handTo}
 use Rattle.steps.proofs.Decision.{busy-few}
-use Rattle.moving.proofs.Passed.{hand-more}
-use Rattle.moving.proofs.Spent.{Spent, spent-none, spent-more, spent-room}
-use Rattle.moving.proofs.handover.hand_all.Statement.{statement}
-use Rattle.moving.proofs.handover.hand_all.Tie as tie
+use Rattle.handing.proofs.Passed.{hand-more}
+use Rattle.handing.proofs.Spent.{Spent, spent-none, spent-more, spent-room}
+use Rattle.handing.proofs.handover.hand_all.Statement.{statement}
+use Rattle.handing.proofs.handover.hand_all.Tie as tie
 
 abbrev Inv-loop : tie.InvT-loop
 Inv-loop m c opened count desks befores afters handovers first following chosen busy left waits₀ ready₀ table₀ place₀

@@ -11,7 +11,7 @@ use lib.Seq.{getD-set-same, getD-set-other}
 use Rattle.rules.specs.Words.{when}
 use Rattle.laws.proofs.Words.{by-test, true-or-false, when-true, when-false}
 use Rattle.steps.specs.Opening.{Among, Opening, Room, Closable, Closes}
-use Rattle.moving.proofs.Opened.{opened-few, opening-alike}
+use Rattle.handing.proofs.Opened.{opened-few, opening-alike}
 
 -- A number below another that is not the one before it is below that.
 lower : (q k : ℕ) → q < k → (q ≡ k - 1 → ⊥) → q < k - 1
