@@ -33,8 +33,8 @@ enum {
 
 /*
  * The refusals. Whole records are judged in file order, each for 2, 3, 4, 5, 6, 7, 9, 10, 8 in that order;
- * then come 1, 11, 13, 12, and 14 for desk_write. The first that holds is the refusal. Records count from 0. A refused call has zero
- * in every number of its answer but the first two, and touches no byte of the buffer.
+ * then come 1, 11, 13, 12, and 14 for desk_write. The first that holds is the refusal. Records count from 0.
+ * A refused call has zero in every number of its answer but the first two, and touches no byte of the buffer.
  */
 enum {
     DESK_ACCEPTED = 0,            /* place 0 */

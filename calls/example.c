@@ -1,6 +1,7 @@
 /*
  * A program that uses the planner from C. It makes the first sheet of the rules page from typed rows, plans
- * it, shows one desk's runs and block sheet, and then what refused files and forms give. What it prints is stored in example.expected.
+ * it, shows one desk's runs and block sheet, and then what refused files and forms give. What it prints is
+ * stored in example.expected.
  */
 #include <inttypes.h>
 #include <stdio.h>

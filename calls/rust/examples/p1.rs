@@ -1,5 +1,6 @@
-//! The twin of `example.c` in the folder above: it makes the first sheet of the rules page from typed rows, plans
-//! it, shows one desk's runs and block sheet, and then what refused files and forms give. Both print what `example.expected` stores.
+//! The twin of `example.c` in the folder above: it makes the first sheet of the rules page from typed rows,
+//! plans it, shows one desk's runs and block sheet, and then what refused files and forms give. Both print what
+//! `example.expected` stores.
 
 use desk::{blocks, plan, records, runs, write, Record, ROOM, ROOM_FOR_A_PIECE};
 

@@ -1,5 +1,5 @@
-//! The answers of the plan, of the block sheet and of the writer. Their numbers are those of the library as they come, so
-//! that a test which compares them sees every bit; what a caller asks of them most stands in methods.
+//! The answers of the plan, of the block sheet and of the writer. Their numbers are those of the library as they
+//! come, so that a test which compares them sees every bit; what a caller asks of them most stands in methods.
 
 use crate::RECORD;
 
