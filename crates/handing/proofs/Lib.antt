@@ -3,4 +3,3 @@ pub mod Passed
 pub mod Opened
 pub mod Closed
 pub mod Marked
-pub mod Spent

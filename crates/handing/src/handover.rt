@@ -1,17 +1,14 @@
-// The pieces that were worked on: one that is finished is closed, and its links are looked at, once each.
+// A piece that was worked on: if that finished it, it is closed, and its links are looked at, once each.
 use crate::passing::pass_on;
 use crate::table::close;
-ghost use mathlib.Core.Bool.{Bool};
 ghost use mathlib.Core.Path.{_≡_};
-ghost use Prim.Native.Nat.{ℕ, _<_, _≤_};
-ghost use lib.ListN.{getD};
+ghost use Prim.Native.Nat.{_<_};
 ghost use Rattle.links.specs.Chains.{Chained};
-ghost use Rattle.steps.specs.Choice.{Busy};
-ghost use Rattle.steps.specs.Handover.{Named, ties, waiting, handOn, handTo};
-ghost use Rattle.steps.specs.Opening.{Among, Opening, Room, Hands, Working, spentTo};
+ghost use Rattle.steps.specs.Handover.{Named, ties, waiting, handOn};
+ghost use Rattle.steps.specs.Opening.{Among, Room, Hands};
 
 // Piece i was worked on until moment c: if that finished it, its links are looked at.
-fn hand_on(
+pub fn hand_on(
     m: usize,
     i: usize,
     c: u32,
@@ -58,64 +55,4 @@ fn hand_on(
         table,
         place,
     )
-}
-
-// The same for the pieces that the desks that work chose.
-pub fn hand_all(
-    m: usize,
-    c: u32,
-    opened: usize,
-    count: usize,
-    desks: &[u8; 256],
-    befores: &[u16; 1024],
-    afters: &[u16; 1024],
-    handovers: &[u16; 1024],
-    last: &[u16; 256],
-    prior: &[u16; 1024],
-    chosen: &[u16; 32],
-    busy: &[u16; 33],
-    left: &[u32; 256],
-    waits: &mut [u16; 256],
-    ready: &mut [u32; 256],
-    table: &mut [u16; 256],
-    place: &mut [u16; 256],
-) -> usize
-    requires { ⌜ Named m (now befores) (now afters) ⌝ }
-    requires { ⌜ Chained (now befores) m (now last) (now prior) ⌝ }
-    requires { ⌜ (c < 4000000000) × Busy 256 count (now chosen) (now busy)
-        × Working count (now chosen) (now busy) opened (now table) ⌝ }
-    requires { ⌜ Room m (now afters) opened (now table) (now place) (now waits) ⌝ }
-    ensures { λ _. ⌜ waiting (now (waits .exit)) (now (ready .exit))
-        ≡ handTo (ties (now (desks .entry)) (now (befores .entry)) (now (afters .entry))
-        (now (handovers .entry))) m c (now (left .entry)) (now (chosen .entry)) (now (busy .entry)) count
-        (waiting (now (waits .entry)) (now (ready .entry))) ⌝ }
-    ensures { λ r. ⌜ ((n : ℕ) (U : ℕ → Bool) → n ≤ 256 → ((k : ℕ) → k < m → getD (now (afters .entry)) k 0 < n)
-        → Opening n opened (now (table .entry)) (now (place .entry)) U (now (waits .entry))
-        → Opening n r (now (table .exit)) (now (place .exit))
-        (spentTo (now (chosen .entry)) (now (busy .entry)) (now (left .entry)) U count) (now (waits .exit))) ⌝ }
-{
-    let mut held = opened;
-    let mut q = 0;
-    while q < count {
-        let d = busy[q] as usize;
-        held = hand_on(
-            m,
-            chosen[d] as usize,
-            c,
-            held,
-            desks,
-            befores,
-            afters,
-            handovers,
-            last,
-            prior,
-            left,
-            waits,
-            ready,
-            table,
-            place,
-        );
-        q += 1;
-    }
-    held
 }

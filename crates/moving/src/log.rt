@@ -2,8 +2,7 @@
 // where the desk has none.
 ghost use mathlib.Core.Path.{_≡_};
 ghost use Prim.Native.Nat.{_<_};
-ghost use Rattle.steps.specs.Choice.{Busy};
-ghost use Rattle.steps.specs.Log.{log, stays, noteOn, noteTo};
+ghost use Rattle.steps.specs.Log.{log, stays, noteOn};
 
 // The run at place k of the log goes on with piece i at moment t.
 fn goes_on(k: usize, i: usize, t: u32, piece: &[u16; 512], until: &[u32; 512]) -> bool
@@ -19,7 +18,7 @@ fn goes_on(k: usize, i: usize, t: u32, piece: &[u16; 512], until: &[u32; 512]) -
 }
 
 // Desk d works on piece i from moment t until moment `next`: its last run goes on, or a run begins.
-fn note(
+pub fn note(
     d: usize,
     i: usize,
     t: u32,
@@ -48,42 +47,4 @@ fn note(
     until[runs] = next;
     last[d] = runs;
     runs + 1
-}
-
-// The same for every desk that works.
-pub fn note_all(
-    t: u32,
-    next: u32,
-    runs: usize,
-    count: usize,
-    chosen: &[u16; 32],
-    busy: &[u16; 33],
-    last: &mut [usize; 32],
-    piece: &mut [u16; 512],
-    from: &mut [u32; 512],
-    until: &mut [u32; 512],
-) -> usize
-    requires { ⌜ Busy 256 count (now chosen) (now busy) ⌝ }
-    ensures { λ r. ⌜ log r (now (last .exit)) (now (piece .exit)) (now (from .exit)) (now (until .exit))
-        ≡ noteTo t next (now (chosen .entry)) (now (busy .entry)) count
-        (log runs (now (last .entry)) (now (piece .entry)) (now (from .entry)) (now (until .entry))) ⌝ }
-{
-    let mut logged = runs;
-    let mut q = 0;
-    while q < count {
-        let d = busy[q] as usize;
-        logged = note(
-            d,
-            chosen[d] as usize,
-            t,
-            next,
-            logged,
-            last,
-            piece,
-            from,
-            until,
-        );
-        q += 1;
-    }
-    logged
 }

@@ -4,8 +4,7 @@ ghost use Prim.Native.Nat.{_<_};
 ghost use lib.Dec.{eqb};
 ghost use lib.ListN.{set};
 ghost use Rattle.rules.specs.Words.{when};
-ghost use Rattle.steps.specs.Choice.{Busy};
-ghost use Rattle.steps.specs.Work.{work, forth, workTo};
+ghost use Rattle.steps.specs.Work.{work, forth};
 
 // Piece i, with so much left of its whole duration, starts at this moment if nothing was worked off it yet.
 fn starts(i: usize, left: u32, whole: u32, t: u32, start: &mut [u32; 256])
@@ -18,7 +17,7 @@ fn starts(i: usize, left: u32, whole: u32, t: u32, start: &mut [u32; 256])
 }
 
 // Piece i is worked on from moment t until moment `next`.
-fn work_on(
+pub fn work_on(
     i: usize,
     t: u32,
     next: u32,
@@ -35,29 +34,4 @@ fn work_on(
     starts(i, left[i], numbers::wide(durations[i]), t, start);
     left[i] = numbers::less(left[i], numbers::less(next, t));
     finish[i] = next;
-}
-
-// Every desk that works does so on the piece that it chose.
-pub fn work_all(
-    t: u32,
-    next: u32,
-    count: usize,
-    durations: &[u16; 256],
-    chosen: &[u16; 32],
-    busy: &[u16; 33],
-    left: &mut [u32; 256],
-    start: &mut [u32; 256],
-    finish: &mut [u32; 256],
-)
-    requires { ⌜ Busy 256 count (now chosen) (now busy) ⌝ }
-    ensures { λ _. ⌜ work (now (left .exit)) (now (start .exit)) (now (finish .exit))
-        ≡ workTo (now (durations .entry)) t next (now (chosen .entry)) (now (busy .entry)) count
-        (work (now (left .entry)) (now (start .entry)) (now (finish .entry))) ⌝ }
-{
-    let mut q = 0;
-    while q < count {
-        let d = busy[q] as usize;
-        work_on(chosen[d] as usize, t, next, durations, left, start, finish);
-        q += 1;
-    }
 }

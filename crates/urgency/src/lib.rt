@@ -4,10 +4,8 @@
 pub mod keys;
 
 use crate::keys::rank;
-use handing::handover;
 use handing::table::mark;
-use moving::log;
-use moving::work;
+use spending::spend_all;
 ghost use mathlib.Core.Path.{_≡_};
 ghost use Prim.Native.Nat.{_≤_};
 ghost use lib.ListN.{length};
@@ -99,35 +97,15 @@ fn plan_by(
         if deciding::NEVER <= look.next {
             return runs;
         }
-        work::work_all(
-            t,
-            look.next,
-            look.count,
-            durations,
-            &chosen,
-            &busy,
-            &mut left,
-            start,
-            finish,
-        );
-        runs = log::note_all(
+        let moved = spend_all(
+            m,
             t,
             look.next,
             runs,
-            look.count,
-            &chosen,
-            &busy,
-            &mut last,
-            piece,
-            from,
-            until,
-        );
-        opened = handover::hand_all(
-            m,
-            look.next,
             opened,
             look.count,
             desks,
+            durations,
             befores,
             afters,
             handovers,
@@ -135,12 +113,20 @@ fn plan_by(
             priors,
             &chosen,
             &busy,
-            &left,
+            &mut left,
+            start,
+            finish,
+            &mut last,
+            piece,
+            from,
+            until,
             &mut waits,
             &mut ready,
             &mut table,
             &mut place,
         );
+        runs = moved.runs;
+        opened = moved.opened;
         t = look.next;
     }
 }

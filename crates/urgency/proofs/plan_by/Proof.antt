@@ -168,30 +168,17 @@ returns c =
     planned (lent s) (s .args .dues .now) (s .pre .0) (l .t) (l .opened) (works d) (waits d) (logs d) (l .table) (l .place)
     (l .busy) (l .inv) (r .count) (chosen d) (busy d) (r .next) (d .decide .ensures) (c .if1 .taken)
 
-work-all-requires : tie.Need-work-all-requires Inv-loop μ-loop
-work-all-requires c κs = c .before .before .before .before .before .before .before .decide .ensures .looked-at .working
+-- The way back from the end of a turn to the test and to the decision.
+abbrev goes-on : tie.After-spend-all Inv-loop μ-loop → tie.Else1 Inv-loop μ-loop
+goes-on c = c .before .before .before .before .before .before .before .before .before .before .before .before .before .before
 
--- The way back from the last places of a turn.
-abbrev noted : tie.After-hand-all Inv-loop μ-loop → tie.After-note-all Inv-loop μ-loop
-noted c = c .before .before .before .before .before .before .before .before
+abbrev at-decision : tie.Else1 Inv-loop μ-loop → tie.After-decide Inv-loop μ-loop
+at-decision c = c .before .before
 
-abbrev worked : tie.After-note-all Inv-loop μ-loop → tie.After-work-all Inv-loop μ-loop
-worked c = c .before .before .before .before .before .before .before
-
-abbrev goes-on : tie.After-work-all Inv-loop μ-loop → tie.Else1 Inv-loop μ-loop
-goes-on c = c .before .before .before .before .before .before
-
-abbrev at-decision : tie.After-work-all Inv-loop μ-loop → tie.After-decide Inv-loop μ-loop
-at-decision c = goes-on c .before .before
-
-note-all-requires : tie.Need-note-all-requires Inv-loop μ-loop
-note-all-requires c κs =
-    let w = c .before .before .before .before .before .before in at-decision w .decide .ensures .looked-at .working
-
-hand-all-requires : tie.Need-hand-all-requires Inv-loop μ-loop
-hand-all-requires c κs =
-    let w = worked (c .before .before .before .before .before .before .before) in
-    let d = at-decision w in
+spend-all-requires : tie.Need-spend-all-requires Inv-loop μ-loop
+spend-all-requires c κs =
+    let e = c .before .before .before .before .before .before .before .before .before .before .before .before .before in
+    let d = at-decision e in
     let s = first d in
     let l = turn d .loop in
     let r = d .decide .result in (
@@ -204,7 +191,7 @@ hand-all-requires c κs =
               arith,
               next-small (lent s) (s .args .dues .now) (s .pre .0) (l .t) (l .opened) (works d) (waits d) (logs d)
                   (l .table) (l .place) (l .busy) (l .inv) (r .count) (chosen d) (busy d) (r .next) (d .decide .ensures)
-                  (goes-on w .if1 .left),
+                  (e .if1 .left),
             ),
             d .decide .ensures .looked-at .working,
             working _ (l .opened) (r .count) (l .table) (chosen d) (busy d) (d .decide .ensures .soon)
@@ -223,8 +210,8 @@ hand-all-requires c κs =
 
 loop-less : tie.Need-loop-less Inv-loop μ-loop
 loop-less c =
-    let w = worked (noted c) in
-    let d = at-decision w in
+    let e = goes-on c in
+    let d = at-decision e in
     let s = first d in
     let l = turn d .loop in
     let r = d .decide .result in
@@ -234,24 +221,24 @@ loop-less c =
           (l .place) (l .busy) (l .inv) (r .count) (chosen d) (busy d) (r .next) (d .decide .ensures),
       next-within (lent s) (s .args .dues .now) (s .pre .0) (l .t) (l .opened) (works d) (waits d) (logs d) (l .table)
           (l .place) (l .busy) (l .inv) (r .count) (chosen d) (busy d) (r .next) (d .decide .ensures)
-          (goes-on w .if1 .left),
+          (e .if1 .left),
     )
 
 loop-again : tie.Need-loop-again Inv-loop μ-loop
 loop-again c =
-    let n = noted c in
-    let w = worked n in
-    let d = at-decision w in
+    let e = goes-on c in
+    let d = at-decision e in
     let s = first d in
     let l = turn d .loop in
     let r = d .decide .result in
+    let moved = c .spend-all .ensures in
     record {
       held = goes (lent s) (s .args .dues .now) (s .pre .0) (l .t) (l .opened) (works d) (waits d) (logs d) (l .table)
           (l .place) (l .busy) (l .inv) (r .count) (chosen d) (busy d) (r .next) (d .decide .ensures)
-          (goes-on w .if1 .left) _ (w .work-all .ensures) _ _ (n .note-all .ensures) (c .hand-all .ensures .0);
+          (e .if1 .left) _ (moved .0) _ _ (moved .1 .0) (moved .1 .1 .0);
       opening = opening-then (s .args .durations .now) (l .t) (r .next) (r .count) (chosen d) (busy d) (works d) _
-          (s .args .n) (c .hand-all .result) _ _ _ (w .work-all .ensures)
-          (c .hand-all .ensures .1 (s .args .n) (unfinished (l .left)) (few (lent s) (s .args .dues .now) (s .pre .0))
+          (s .args .n) (c .spend-all .result .opened) _ _ _ (moved .0)
+          (moved .1 .1 .1 (s .args .n) (unfinished (l .left)) (few (lent s) (s .args .dues .now) (s .pre .0))
           (after-inside (lent s) (s .args .dues .now) (s .pre .0)) (l .inv .opening));
       busy-sized = d .decide .ensures .looked-at .working .busy-sized;
     }
@@ -269,8 +256,6 @@ plan-by-spec =
     loop-holds
     decide-requires
     returns
-    work-all-requires
-    note-all-requires
-    hand-all-requires
+    spend-all-requires
     loop-less
     loop-again)

@@ -60,3 +60,10 @@ module _ (m : ℕ) (afters : List ℕ) (count : ℕ) (chosen busy left : List �
     after-one = r .after-one;
     opening = s .opening (r .pieces) (r .among) (r .few) (r .after-one) (r .opening);
   }
+
+  -- All looked at, by the slots that are left then.
+  pub spent-end : (q : ℕ) (rest : List ℕ) (opened₂ : ℕ) (table₂ place₂ waits₂ : List ℕ) → q ≡ count → rest ≡ left
+      → Spent q opened₂ table₂ place₂ waits₂
+      → (n : ℕ) (U : ℕ → Bool) → n ≤ 256 → ((k : ℕ) → k < m → getD afters k 0 < n)
+      → Opening n opened table place U waits → Opening n opened₂ table₂ place₂ (spentTo chosen busy rest U count) waits₂
+  spent-end q rest opened₂ table₂ place₂ waits₂ e x s = rw (x, ← e) (s .opening)
