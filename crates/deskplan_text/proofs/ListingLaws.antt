@@ -26,10 +26,10 @@ use Rattle.output.specs.Late.{latenessIn}
 use Rattle.planner.specs.Finished.{Finished}
 use Rattle.planner.proofs.PlanLaws.{count-here, end-here, worst-here, stored-front}
 use Rattle.planner.proofs.WriteLaws.{few-pieces}
-use Rattle.listing.specs.Puts.{Puts}
-use Rattle.listing.specs.Lines.{pieceText, runText, totalText, refusedText, pieceLineIn, pieceLinesIn, deskLinesIn, runLinesIn}
-use Rattle.listing.proofs.LineLaws.{run-most, total-most, refused-most}
-use Rattle.listing.proofs.TextLaws.{puts-then}
+use Rattle.texts.specs.Puts.{Puts}
+use Rattle.lines.specs.Lines.{pieceText, runText, totalText, refusedText, pieceLineIn, pieceLinesIn, deskLinesIn, runLinesIn}
+use Rattle.lines.proofs.LineLaws.{run-most, total-most, refused-most}
+use Rattle.texts.proofs.TextLaws.{puts-then}
 use Rattle.listing.proofs.PageLaws.{pieces-most}
 use Rattle.deskplan_text.specs.Promise.{enough, listedCount, listedText, ListingPromise, pagesIn}
 

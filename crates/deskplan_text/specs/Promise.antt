@@ -12,7 +12,7 @@ use Rattle.rules.specs.Listing.{listing}
 use Rattle.rules.specs.Plan.{atFront}
 use Rattle.output.specs.Late.{Bounded, latenessIn}
 use Rattle.output.specs.Written.{LogFits}
-use Rattle.listing.specs.Lines.{pieceLinesIn, runLinesIn, totalText}
+use Rattle.lines.specs.Lines.{pieceLinesIn, runLinesIn, totalText}
 use Rattle.planner.specs.Judged.{Planable}
 
 -- Room for every listing.

@@ -1,7 +1,7 @@
 // The text that deskplan prints: the listing of a job file in a lent text. Every file has one; a text of 131,072 bytes has
 // room for each.
-use listing::lines::put_refused_line;
-use listing::lines::put_total_line;
+use lines::put_refused_line;
+use lines::put_total_line;
 use listing::pages::put_piece_lines;
 use listing::pages::put_run_lines;
 use output::figures::largest_finish;
@@ -15,7 +15,7 @@ ghost use Prim.Native.Nat.{ℕ};
 ghost use Rattle.rules.specs.Job.{accepted};
 ghost use Rattle.rules.specs.Judgement.{fileOutcome};
 ghost use Rattle.rules.specs.Tables.{jobIn};
-ghost use Rattle.listing.specs.Puts.{Puts};
+ghost use Rattle.texts.specs.Puts.{Puts};
 ghost use Rattle.deskplan_text.specs.Promise.{ListingPromise, ToPrint, ToList, pagesIn};
 
 // The room that every listing has: 256 piece lines of 211 bytes, 512 run lines and the total of 141 bytes each, at most.

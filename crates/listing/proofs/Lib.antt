@@ -1,4 +1,2 @@
--- What the proofs of this crate share.
-pub mod TextLaws
-pub mod LineLaws
+-- Laws of the pages, line by line.
 pub mod PageLaws

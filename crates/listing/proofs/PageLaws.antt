@@ -13,10 +13,10 @@ use Rattle.rules.specs.Listing.{line, runLine}
 use Rattle.laws.proofs.Words.{by-test, when-true, when-false}
 use Rattle.laws.proofs.Joined.{joined-more, kept-more, not-kept-more, map-twice}
 use Rattle.steps.specs.Log.{runAt, loggedRuns}
-use Rattle.listing.specs.Puts.{Puts}
-use Rattle.listing.specs.Lines.{runText, pieceLineIn, pieceLinesIn, runLineIn, deskLinesIn, runLinesIn}
-use Rattle.listing.proofs.LineLaws.{piece-most}
-use Rattle.listing.proofs.TextLaws.{puts-then, puts-none}
+use Rattle.texts.specs.Puts.{Puts}
+use Rattle.lines.specs.Lines.{runText, pieceLineIn, pieceLinesIn, runLineIn, deskLinesIn, runLinesIn}
+use Rattle.lines.proofs.LineLaws.{piece-most}
+use Rattle.texts.proofs.TextLaws.{puts-then, puts-none}
 
 -- Pages that grow line by line.
 module _ (page piece : ℕ → List ℕ) (more : (k : ℕ) → page (suc k) ≡ page k ++ piece k) where

@@ -1,4 +1,2 @@
-// The text that deskplan prints, line by line into a lent buffer, out of the tables of a finished plan.
-pub mod lines;
+// The text that deskplan prints, page by page into a lent buffer, out of the tables of a finished plan.
 pub mod pages;
-pub mod text;

@@ -1,14 +1,14 @@
 // The pages of a listing out of the tables of a finished plan: the lines of all pieces by number, the run lines by desk and
 // then by start. The log has the runs in the order in which they begin, so each desk's runs stand in it by start.
-use crate::lines::put_piece_line;
-use crate::lines::put_run_line;
+use lines::put_piece_line;
+use lines::put_run_line;
 ghost use Prim.Native.Nat.{ℕ, _+_, _*_, _≤_, _<_};
 ghost use lib.IntN.{pos};
 ghost use lib.ListN.{length, getD};
 ghost use Rattle.output.specs.Late.{Bounded};
 ghost use Rattle.output.specs.Written.{LogFits};
-ghost use Rattle.listing.specs.Puts.{Puts};
-ghost use Rattle.listing.specs.Lines.{pieceLinesIn, runLineIn, deskLinesIn, runLinesIn, RunFits};
+ghost use Rattle.texts.specs.Puts.{Puts};
+ghost use Rattle.lines.specs.Lines.{pieceLinesIn, runLineIn, deskLinesIn, runLinesIn, RunFits};
 
 // The lines of the first n pieces.
 pub fn put_piece_lines(

@@ -3,7 +3,7 @@ use mathlib.Core.Path.{_∙_}
 use native.Mathlib.Omega.{arith}
 use mir.Syntax.{w32}
 use mir.ValLaws.{toZ-ofZ}
-use Rattle.listing.proofs.TextLaws.{puts-same}
+use Rattle.texts.proofs.TextLaws.{puts-same}
 use Rattle.listing.proofs.PageLaws.{pieces-most}
 use Rattle.deskplan_text.proofs.ListingLaws.{pages-put}
 use borrow.Author.Needs.{needs}

@@ -7,9 +7,9 @@ use mir.ValLaws.{toZ-ofZ}
 use lib.IntN.{pos}
 use lib.ListN.{length, getD}
 use borrow.Author.Needs.{needs}
-use Rattle.listing.specs.Puts.{Puts}
-use Rattle.listing.specs.Lines.{pieceLinesIn, pieceLineIn}
-use Rattle.listing.proofs.TextLaws.{puts-same}
+use Rattle.texts.specs.Puts.{Puts}
+use Rattle.lines.specs.Lines.{pieceLinesIn, pieceLineIn}
+use Rattle.texts.proofs.TextLaws.{puts-same}
 use Rattle.listing.proofs.PageLaws.{no-piece-yet, pieces-more, pieces-most, line-more}
 use Rattle.listing.proofs.pages.put_piece_lines.Statement.{statement}
 use Rattle.listing.proofs.pages.put_piece_lines.Tie as tie

@@ -2,9 +2,9 @@
 use Prim.Native.Nat.{_-_, _≤_}
 use mathlib.Core.Path.{_≡_}
 use native.Mathlib.Omega.{arith}
-use Rattle.listing.specs.Puts.{Puts}
-use Rattle.listing.specs.Lines.{deskLinesIn, runLinesIn}
-use Rattle.listing.proofs.TextLaws.{puts-same}
+use Rattle.texts.specs.Puts.{Puts}
+use Rattle.lines.specs.Lines.{deskLinesIn, runLinesIn}
+use Rattle.texts.proofs.TextLaws.{puts-same}
 use Rattle.listing.proofs.PageLaws.{no-desk-yet, desks-more, line-more, desk-room}
 use Rattle.listing.proofs.pages.put_run_lines.Statement.{statement}
 use Rattle.listing.proofs.pages.put_run_lines.Tie as tie

@@ -1,3 +1,0 @@
--- What the contracts of this crate cite besides the rules.
-pub mod Puts
-pub mod Lines

@@ -1,0 +1,2 @@
+-- Laws of texts put one behind the other.
+pub mod TextLaws

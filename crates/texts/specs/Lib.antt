@@ -1,0 +1,2 @@
+-- What a text gained by a put.
+pub mod Puts
