@@ -1,4 +1,5 @@
 pub mod Sorting
+pub mod Rising
 pub mod Worst
 pub mod Recording
 pub mod DeskSheet
