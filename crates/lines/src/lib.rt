@@ -3,7 +3,7 @@ use texts::put_bytes;
 use texts::put_number;
 use texts::put_signed;
 ghost use mathlib.Core.List.{_++_};
-ghost use Prim.Native.Nat.{ℕ, _+_, _≤_};
+ghost use Prim.Native.Nat.{_+_, _≤_};
 ghost use lib.ListN.{length};
 ghost use Rattle.rules.specs.Listing.{digits, signedDigits};
 ghost use Rattle.output.specs.Late.{Bounded};

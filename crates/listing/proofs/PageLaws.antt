@@ -9,7 +9,7 @@ use lib.Dec.{eqb}
 use lib.IntN.{ℤ, pos}
 use lib.ListN.{length, getD, length-append}
 use Rattle.rules.specs.Words.{keep, below, joined}
-use Rattle.rules.specs.Listing.{line, runLine}
+use Rattle.rules.specs.Listing.{runLine}
 use Rattle.laws.proofs.Words.{by-test, when-true, when-false}
 use Rattle.laws.proofs.Joined.{joined-more, kept-more, not-kept-more, map-twice}
 use Rattle.steps.specs.Log.{runAt, loggedRuns}
