@@ -1,47 +1,45 @@
 -- A finished piece's links, followed along their chain: from one link of the piece to the next nothing else changes.
-use Prim.Native.Nat.{ℕ, zero, suc, _+_, _-_, _≤_, _<_, max}
+use Prim.Native.Nat.{ℕ, suc, _+_, _-_, _≤_, _<_, max}
 use mathlib.Core.List.{List}
-use mathlib.Core.Path.{_≡_, refl, sym, _∙_}
+use mathlib.Core.Path.{_≡_, sym, ap, _∙_}
 use native.Mathlib.Numerals.{add-one}
 use native.Mathlib.Omega.{arith}
-use borrow.Author.Tests.{eqb-true, eq-eqb, ne-eqb}
+use borrow.Author.Tests.{eq-eqb, ne-eqb}
 use lib.Dec.{eqb}
 use lib.ListN.{getD, set}
 use Rattle.rules.specs.Words.{when}
-use Rattle.laws.proofs.Words.{by-test, when-true, when-false}
+use Rattle.laws.proofs.Words.{when-true, when-false}
 use Rattle.links.specs.Chains.{lastWith}
+use Rattle.links.proofs.ChainLaws.{chain-key, chain-skip}
 use Rattle.steps.specs.Handover.{Ties, Waiting, waiting, delayOf, passed, passFrom, handOn, handTo}
 
 -- The last link of a piece among the first n is one of these, and the piece's own; what is passed on from there on
 -- back is all that is passed on. 0 says that there is none, and then nothing is.
-pub last-most : (befores : List ℕ) (p n : ℕ) → lastWith befores p n ≤ n
-unfolding lastWith
-last-most befores p zero = omega arith
-last-most befores p (suc n) =
-    let ih : lastWith befores p n ≤ n = last-most befores p n in
-    by-test (eqb (getD befores n 0) p) (λ e. rw (e, when) (omega arith)) (λ e. rw (e, when) (omega arith))
-
 module _ (l : Ties) (p c : ℕ) where
   pub record Onward (s : Waiting) (n k : ℕ) : Type 0 where
     pub below : k < n
     pub own : getD (l .befores) k 0 ≡ p
     pub rest : passFrom l p c n s ≡ passFrom l p c k (passed l c k s)
 
+  to-last : (s : Waiting) (n : ℕ) → passFrom l p c n s ≡ passFrom l p c (lastWith (l .befores) p n) s
+  unfolding passFrom
+  to-last s n = sym (chain-skip (l .befores) p (λ k. passFrom l p c k s) n
+      (λ k h ne. ap (passFrom l p c k) (when-false _ _ _ (ne-eqb _ p ne))))
+
   pub last-found : (s : Waiting) (n k : ℕ) → lastWith (l .befores) p n ≡ suc k → Onward s n k
-  unfolding lastWith passFrom
-  last-found s zero k e = absurd (omega arith)
-  last-found s (suc n) k e = by-test (eqb (getD (l .befores) n 0) p)
-      (λ q. let z : n ≡ k = omega (arith, rw (q, when) at e) in
-      rw (← z) (record { below = omega arith; own = eqb-true _ p q; rest = rw (q, when) }))
-      (λ q. let ih = last-found s n k (rw (q, when) at e) in
-      record { below = omega (arith, ih .below); own = ih .own; rest = rw (q, when) (ih .rest) })
+  unfolding passFrom
+  last-found s n k e =
+      let w = chain-key (l .befores) p n k e in
+      record {
+        below = w .0;
+        own = w .1;
+        rest = to-last s n ∙ ap (λ j. passFrom l p c j s) e
+            ∙ ap (passFrom l p c k) (when-true _ _ _ (eq-eqb _ p (w .1)));
+      }
 
   pub last-nothing : (s : Waiting) (n : ℕ) → lastWith (l .befores) p n ≡ 0 → passFrom l p c n s ≡ s
-  unfolding lastWith passFrom
-  last-nothing s zero e = refl
-  last-nothing s (suc n) e = by-test (eqb (getD (l .befores) n 0) p)
-      (λ q. let z : suc n ≡ 0 = rw (q, when) at e in absurd (omega arith))
-      (λ q. rw (q, when) (last-nothing s n (rw (q, when) at e)))
+  unfolding passFrom
+  last-nothing s n e = to-last s n ∙ ap (λ j. passFrom l p c j s) e
 
 -- One link looked at, with what the code computed for it.
 pub passed-on : (l : Ties) (c k w r d : ℕ) (s : Waiting) → w ≡ getD (s .waits) (getD (l .afters) k 0) 0 - 1

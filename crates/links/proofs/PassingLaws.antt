@@ -13,14 +13,15 @@ use Rattle.laws.proofs.Words.{by-test, true-or-false, or-true, or-left, or-righ
 use Rattle.links.specs.Chains.{lastWith}
 use Rattle.links.specs.Links.{linksBetween}
 use Rattle.links.specs.Queue.{Queue, Passed, among, linksFromFirst, Net, FirstPassed}
-use Rattle.links.proofs.ChainLaws.{chain-most, chain-key, chain-skip}
+use Rattle.links.proofs.ChainLaws.{chain-skip, OnChain, chain-start, on-most, on-link, on-falls, on-next}
 use Rattle.links.proofs.Counting.{below-or-last, counted-same, counted-le, counted-none, counted-split}
 
 -- On the way along the chain of piece i, before the link at place `at - 1`: what is left to pass there makes it whole.
 pub record Walking (n m : ℕ) (befores afters : List ℕ) (i t : ℕ) (order waits : List ℕ)
     (at r : ℕ) (order₂ waits₂ : List ℕ) : Type 0 where
+  pub bound : ℕ
+  pub chain : OnChain befores i m at bound
   pub place : at ≤ m
-  pub own : (k : ℕ) → at ≡ suc k → getD befores k 0 ≡ i
   pub queue : Queue n r order₂ waits₂
   pub more : t ≤ r
   pub kept : (q : ℕ) → q < t → getD order₂ q 0 ≡ getD order q 0
@@ -48,47 +49,48 @@ module _ (afters last prior : List ℕ) (N : Net afters last prior) (i t : ℕ) 
   Walk = Walking (N .pieces) (N .links) (N .befores) afters i t order waits
 
   pub walk-start : i < N .pieces → Queue (N .pieces) t order waits → Walk (getD last i 0) t order waits
-  walk-start one Q = rw (N .chained .ends i (omega (arith, N .ties .few-pieces))) (record {
-    place = chain-most (N .befores) i (N .links);
-    own = λ k e. chain-key (N .befores) i (N .links) k e .1;
-    queue = Q;
-    more = omega arith;
-    kept = λ q l. refl;
-    rest = λ j l. ap (λ x. getD waits j 0 - x) (between-skip (N .befores) afters i j (N .links));
-  })
+  walk-start one Q =
+      let first = chain-start (N .befores) (N .links) last prior (N .chained) i (omega (arith, N .ties .few-pieces)) in
+      record {
+        bound = N .links;
+        chain = first;
+        place = on-most (N .befores) (N .links) last prior (N .chained) i _ _ first;
+        queue = Q;
+        more = omega arith;
+        kept = λ q l. refl;
+        rest = λ j l. rw (first .here-is) (ap (λ x. getD waits j 0 - x) (between-skip (N .befores) afters i j (N .links)));
+      }
 
   -- At a link: it is one of the links, it leads to a piece, and the next on the chain stands at a lower place.
   module _ (at r : ℕ) (order₂ waits₂ : List ℕ) (W : Walk at r order₂ waits₂) (on : at ≡ 0 → ⊥) where
-    pub walk-place : at - 1 < N .links
-    walk-place = omega (arith, W .place)
+    here : (at - 1 < N .links) × (getD (N .befores) (at - 1) 0 ≡ i)
+    here = on-link (N .befores) (N .links) last prior (N .chained) i at (W .bound) (W .chain) on
 
     pub walk-link : getD afters (at - 1) 0 < N .pieces
-    walk-link = N .ties .after-one (at - 1) walk-place
-
-    key : getD (N .befores) (at - 1) 0 ≡ i
-    key = W .own (at - 1) (omega arith)
-
-    next : getD prior (at - 1) 0 ≡ lastWith (N .befores) i (at - 1)
-    next = N .chained .goes-on (at - 1) walk-place ∙ ap (λ x. lastWith (N .befores) x (at - 1)) key
+    walk-link = N .ties .after-one (at - 1) (here .0)
 
     pub walk-falls : getD prior (at - 1) 0 < at
-    walk-falls = omega (arith, next, chain-most (N .befores) i (at - 1))
+    walk-falls = on-falls (N .befores) (N .links) last prior (N .chained) i at (W .bound) (W .chain) on
+
+    onward : OnChain (N .befores) i (N .links) (getD prior (at - 1) 0) (at - 1)
+    onward = on-next (N .befores) (N .links) last prior (N .chained) i at (W .bound) (W .chain) on
 
     pub walk-on : (r₃ : ℕ) (order₃ waits₃ : List ℕ)
         → Passed (N .pieces) r (λ x. when (eqb x (getD afters (at - 1) 0)) 1 0) order₂ waits₂ r₃ order₃ waits₃
         → Walk (getD prior (at - 1) 0) r₃ order₃ waits₃
-    walk-on r₃ order₃ waits₃ P = rw next (record {
-      place = omega (arith, chain-most (N .befores) i (at - 1), walk-place);
-      own = λ g e. chain-key (N .befores) i (at - 1) g e .1;
+    walk-on r₃ order₃ waits₃ P = record {
+      bound = at - 1;
+      chain = onward;
+      place = on-most (N .befores) (N .links) last prior (N .chained) i _ _ onward;
       queue = P .queue;
       more = omega (arith, W .more, P .more);
       kept = λ q l. P .kept q (omega (arith, W .more)) ∙ W .kept q l;
       rest = λ j l.
           let z : at ≡ suc (at - 1) = omega arith in
           let before = ap (λ x. getD waits₂ j 0 - linksBetween x (N .befores) afters i j) (sym z) ∙ W .rest j l in
-          rw (between-skip (N .befores) afters i j (at - 1))
-          (omega (arith, P .lowered j l, before, between-own (N .befores) afters i j (at - 1) key));
-    })
+          rw (onward .here-is, between-skip (N .befores) afters i j (at - 1))
+          (omega (arith, P .lowered j l, before, between-own (N .befores) afters i j (at - 1) (here .1)));
+    }
 
   pub walk-end : (r : ℕ) (order₂ waits₂ : List ℕ) → Walk 0 r order₂ waits₂
       → Passed (N .pieces) t (linksBetween (N .links) (N .befores) afters i) order waits r order₂ waits₂

@@ -5,10 +5,11 @@ use Prim.Native.Nat.{ℕ, suc, _+_, _-_, _≤_, _<_}
 use mathlib.Core.Path.{_≡_, refl, sym, ap, _∙_}
 use native.Mathlib.Omega.{arith}
 use Rattle.links.specs.Chains.{lastWith}
+use Rattle.links.proofs.ChainLaws.{chain-most}
 use Rattle.steps.specs.Handover.{Ties, ties, waiting, passFrom}
 use Rattle.steps.specs.Opening.{Opens}
 use Rattle.handing.proofs.Opened.{opens-none, opens-then, room-then}
-use Rattle.handing.proofs.Passed.{Onward, last-found, last-nothing, last-most}
+use Rattle.handing.proofs.Passed.{Onward, last-found, last-nothing}
 use Rattle.handing.proofs.passing.pass_on.Statement.{statement}
 use Rattle.handing.proofs.passing.pass_on.Tie as tie
 
@@ -110,7 +111,7 @@ next-is c =
 loop-less : tie.Need-loop-less Inv-loop μ-loop
 loop-less c =
     let s = entry (turn c) in
-    omega (arith, next-is c, last-most (s .args .befores .now) (s .args .p) (turn c .before .loop .next - 1))
+    omega (arith, next-is c, chain-most (s .args .befores .now) (s .args .p) (turn c .before .loop .next - 1))
 
 loop-again : tie.Need-loop-again Inv-loop μ-loop
 loop-again c =
