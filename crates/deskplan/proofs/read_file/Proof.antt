@@ -43,33 +43,43 @@ count-requires : tie.Need-count-requires Inv-loop μ-loop
 count-requires c κs = search needs
 
 cast-result : tie.Need-cast-result Inv-loop μ-loop
-cast-result c = record { sfits = omega (arith, c .before .before .before .before .before .before .before .before .before .before .loop .inv .0, c .before .before .before .before .before .before .before .before .before .before .loop .inv .1, c .before .before .before .before .before .before .before .before .before .before .before .before .pre) }
+cast-result c =
+    let s = c .before .before .before .before .before .before .before .before .before .before in
+    record { sfits = omega (arith, s .loop .inv .0, s .loop .inv .1, s .before .before .pre) }
 
 same-length-2 : tie.Need-same-length-2 Inv-loop μ-loop
-same-length-2 c = c .before .before .before .before .before .before .before .read-more .kept .0 ∙ c .before .before .before .before .before .before .before .before .before .before .loop .inv .1
+same-length-2 c =
+    let s = c .before .before .before .before .before .before .before in
+    s .read-more .kept .0 ∙ s .before .before .before .loop .inv .1
 
 returns-2 : tie.Need-returns-2 Inv-loop μ-loop
 returns-2 c = search needs
 
 add-done : tie.Need-add-done Inv-loop μ-loop
 add-done c =
-    let L = c .before .before .before .before .before .before .before .before .before .before .loop in
-    let more = c .before .before .before .before .before .before .before .read-more .kept .0 in
-    let came = within (L .done) (c .before .count .result) (c .before .before .before .before .before .before .before .read-more .last .0) (c .before .count .ensures .0 .0) in
+    let read = c .before .before .before .before .before .before .before in
+    let L = read .before .before .before .loop in
+    let more = read .read-more .kept .0 in
+    let count = c .before .count in
+    let came = within (L .done) (count .result) (read .read-more .last .0) (count .ensures .0 .0) in
     omega (arith, came, more, L .inv .0, L .inv .1, c .before .before .before .before .before .before .before .before .before .before .before .before .pre)
 
 loop-less : tie.Need-loop-less Inv-loop μ-loop
 loop-less c =
-    let L = c .before .before .before .before .before .before .before .before .before .before .loop in
-    let more = c .before .before .before .before .before .before .before .read-more .kept .0 in
-    let came = within (L .done) (c .before .count .result) (c .before .before .before .before .before .before .before .read-more .last .0) (c .before .count .ensures .0 .0) in
+    let read = c .before .before .before .before .before .before .before in
+    let L = read .before .before .before .loop in
+    let more = read .read-more .kept .0 in
+    let count = c .before .count in
+    let came = within (L .done) (count .result) (read .read-more .last .0) (count .ensures .0 .0) in
     omega (arith, came, more, L .inv .0, L .inv .1, c .if2 .left)
 
 loop-again : tie.Need-loop-again Inv-loop μ-loop
 loop-again c =
-    let L = c .before .before .before .before .before .before .before .before .before .before .loop in
-    let more = c .before .before .before .before .before .before .before .read-more .kept .0 in
-    let came = within (L .done) (c .before .count .result) (c .before .before .before .before .before .before .before .read-more .last .0) (c .before .count .ensures .0 .0) in
+    let read = c .before .before .before .before .before .before .before in
+    let L = read .before .before .before .loop in
+    let more = read .read-more .kept .0 in
+    let count = c .before .count in
+    let came = within (L .done) (count .result) (read .read-more .last .0) (count .ensures .0 .0) in
     (omega (arith, came, more, L .inv .0, L .inv .1), more ∙ L .inv .1)
 
 cast-result-2 : tie.Need-cast-result-2 Inv-loop μ-loop

@@ -33,7 +33,15 @@ put-total-line-requires c κs =
     let p = c .before .before .before .before .before .before .before .before .before .before .before .before .pre in
     let put = c .before .before .before .before .before .before .before .before .before .put-piece-lines .ensures in
     let more = c .before .before .before .before .before .put-run-lines .ensures in
-    omega (arith, p .room, put .past, puts-same put, more .past, puts-same more, pieces-most (a .desks .now) (a .starts .now) (a .finishes .now) (a .latests .now) (a .n))
+    omega (
+      arith,
+      p .room,
+      put .past,
+      puts-same put,
+      more .past,
+      puts-same more,
+      pieces-most (a .desks .now) (a .starts .now) (a .finishes .now) (a .latests .now) (a .n),
+    )
 
 same-length : tie.Need-same-length
 same-length c = search needs
@@ -41,9 +49,12 @@ same-length c = search needs
 returns : tie.Need-returns
 returns c =
     let a = c .before .before .before .before .before .before .before .before .before .before .before .before .before .before .before .args in
-    let worst = toZ-ofZ w32 (c .before .before .before .before .worst-lateness .result) (record { sfits = c .before .before .before .before .worst-lateness .ok }) ∙ c .before .before .before .before .worst-lateness .ensures in
+    let late = c .before .before .before .before .worst-lateness in
+    let worst = toZ-ofZ w32 (late .result) (record { sfits = late .ok }) ∙ late .ensures in
     pages-put (a .n) (a .count) (a .desks .now) (a .starts .now) (a .finishes .now) (a .latests .now) (a .pieces .now) (a .froms .now) (a .untils .now)
-    (c .before .before .before .before .before .before .before .before .before .before .before .before .put-piece-lines .ensures) (c .before .before .before .before .before .before .before .before .put-run-lines .ensures) (c .before .before .before .before .before .largest-finish .ensures) worst (c .before .before .put-total-line .ensures)
+    (c .before .before .before .before .before .before .before .before .before .before .before .before .put-piece-lines .ensures)
+    (c .before .before .before .before .before .before .before .before .put-run-lines .ensures)
+    (c .before .before .before .before .before .largest-finish .ensures) worst (c .before .before .put-total-line .ensures)
 
 pub put-pages-spec : {M : Type 1} → statement M
 put-pages-spec =

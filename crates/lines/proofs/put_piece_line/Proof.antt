@@ -82,12 +82,14 @@ put-signed-field-requires c κs =
 
 cast-late : tie.Need-cast-late
 cast-late c =
-    let s26 = c .before .before .before .before .before .before .before .before .before .before .before .before .before .before .before .before .before .before .before .before .before .before .before .before .before .before in
+    let s13 = c .before .before .before .before .before .before .before .before .before .before .before .before .before in
+    let s26 = s13 .before .before .before .before .before .before .before .before .before .before .before .before .before in
     omega (arith, s26 .pre .1 .early)
 
 sub-late : tie.Need-sub-late
 sub-late c =
-    let s26 = c .before .before .before .before .before .before .before .before .before .before .before .before .before .before .before .before .before .before .before .before .before .before .before .before .before .before in
+    let s13 = c .before .before .before .before .before .before .before .before .before .before .before .before .before in
+    let s26 = s13 .before .before .before .before .before .before .before .before .before .before .before .before .before in
     rw (toZ-pos w32 {n = s26 .args .finish} (omega (arith, s26 .pre .1 .early)), toZ-ofZ (s26 .fits .latest))
     (late-fits (s26 .args .finish) (s26 .args .latest) (s26 .pre .1))
 
@@ -126,7 +128,8 @@ slice-write-text c =
     let F3 = then-field F2 (s17 .put-field3 .ensures) in
     let F4 = then-field F3 (s12 .put-field4 .ensures) in
     let F5 = then-field F4 (simp (toZ-ofZ (s31 .fits .latest)) at (s7 .put-signed-field .ensures)) in
-    let F6 = then-field F5 (simp (late-is (s31 .args .finish) (s31 .args .latest) (s31 .fits .latest) (s31 .pre .1)) at (c .before .before .put-signed-field2 .ensures)) in
+    let late = late-is (a .finish) (a .latest) (s31 .fits .latest) (s31 .pre .1) in
+    let F6 = then-field F5 (simp late at (c .before .before .put-signed-field2 .ensures)) in
     omega (arith, F6 .same, F6 .near, s31 .pre .0)
 
 add-result : tie.Need-add-result
@@ -144,7 +147,8 @@ add-result c =
     let F3 = then-field F2 (s17 .put-field3 .ensures) in
     let F4 = then-field F3 (s12 .put-field4 .ensures) in
     let F5 = then-field F4 (simp (toZ-ofZ (s31 .fits .latest)) at (s7 .put-signed-field .ensures)) in
-    let F6 = then-field F5 (simp (late-is (s31 .args .finish) (s31 .args .latest) (s31 .fits .latest) (s31 .pre .1)) at (c .before .before .put-signed-field2 .ensures)) in
+    let late = late-is (a .finish) (a .latest) (s31 .fits .latest) (s31 .pre .1) in
+    let F6 = then-field F5 (simp late at (c .before .before .put-signed-field2 .ensures)) in
     omega (arith, F6 .near, s31 .pre .0, F6 .same, s31 .good .1 .0 .1, s31 .good .0)
 
 same-length : tie.Need-same-length
@@ -162,7 +166,8 @@ same-length c =
     let F3 = then-field F2 (s17 .put-field3 .ensures) in
     let F4 = then-field F3 (s12 .put-field4 .ensures) in
     let F5 = then-field F4 (simp (toZ-ofZ (s31 .fits .latest)) at (s7 .put-signed-field .ensures)) in
-    let F6 = then-field F5 (simp (late-is (s31 .args .finish) (s31 .args .latest) (s31 .fits .latest) (s31 .pre .1)) at (c .before .before .put-signed-field2 .ensures)) in
+    let late = late-is (a .finish) (a .latest) (s31 .fits .latest) (s31 .pre .1) in
+    let F6 = then-field F5 (simp late at (c .before .before .put-signed-field2 .ensures)) in
     newline-same F6
 
 returns : tie.Need-returns
@@ -181,7 +186,8 @@ returns c =
     let F3 = then-field F2 (s17 .put-field3 .ensures) in
     let F4 = then-field F3 (s12 .put-field4 .ensures) in
     let F5 = then-field F4 (simp (toZ-ofZ (s31 .fits .latest)) at (s7 .put-signed-field .ensures)) in
-    let F6 = then-field F5 (simp (late-is (s31 .args .finish) (s31 .args .latest) (s31 .fits .latest) (s31 .pre .1)) at (c .before .before .put-signed-field2 .ensures)) in
+    let late = late-is (a .finish) (a .latest) (s31 .fits .latest) (s31 .pre .1) in
+    let F6 = then-field F5 (simp late at (c .before .before .put-signed-field2 .ensures)) in
     then-newline F6
 
 pub put-piece-line-spec : {M : Type 1} → statement M

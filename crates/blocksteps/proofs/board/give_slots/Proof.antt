@@ -34,25 +34,39 @@ returns-3 c =
     (sym (c .before .touches .ensures (s .args .froms .now)) ∙ c .if3 .taken) (omega arith)
 
 mul-pieces : tie.Need-mul-pieces
-mul-pieces c = omega (arith, share-one (c .before .before .before .before .before .before .args .piece) (c .before .before .before .before .before .if1 .left))
+mul-pieces c =
+    let s = c .before .before .before .before .before in
+    omega (arith, share-one (s .before .args .piece) (s .if1 .left))
 
 element-write-pieces : tie.Need-element-write-pieces
-element-write-pieces c = omega (arith, share-one (c .before .before .before .before .before .before .args .piece) (c .before .before .before .before .before .if1 .left))
+element-write-pieces c =
+    let s = c .before .before .before .before .before in
+    omega (arith, share-one (s .before .args .piece) (s .if1 .left))
 
 mul-froms : tie.Need-mul-froms
-mul-froms c = omega (arith, share-one (c .before .before .before .before .before .before .args .piece) (c .before .before .before .before .before .if1 .left))
+mul-froms c =
+    let s = c .before .before .before .before .before in
+    omega (arith, share-one (s .before .args .piece) (s .if1 .left))
 
 element-write-froms : tie.Need-element-write-froms
-element-write-froms c = omega (arith, share-one (c .before .before .before .before .before .before .args .piece) (c .before .before .before .before .before .if1 .left))
+element-write-froms c =
+    let s = c .before .before .before .before .before in
+    omega (arith, share-one (s .before .args .piece) (s .if1 .left))
 
 mul-untils-2 : tie.Need-mul-untils-2
-mul-untils-2 c = omega (arith, share-one (c .before .before .before .before .before .before .args .piece) (c .before .before .before .before .before .if1 .left))
+mul-untils-2 c =
+    let s = c .before .before .before .before .before in
+    omega (arith, share-one (s .before .args .piece) (s .if1 .left))
 
 element-write-untils-2 : tie.Need-element-write-untils-2
-element-write-untils-2 c = omega (arith, share-one (c .before .before .before .before .before .before .args .piece) (c .before .before .before .before .before .if1 .left))
+element-write-untils-2 c =
+    let s = c .before .before .before .before .before in
+    omega (arith, share-one (s .before .args .piece) (s .if1 .left))
 
 add-result : tie.Need-add-result
-add-result c = omega (arith, share-one (c .before .before .before .before .before .before .args .piece) (c .before .before .before .before .before .if1 .left))
+add-result c =
+    let s = c .before .before .before .before .before in
+    omega (arith, share-one (s .before .args .piece) (s .if1 .left))
 
 returns-4 : tie.Need-returns-4
 returns-4 c =

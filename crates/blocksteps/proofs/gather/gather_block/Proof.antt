@@ -60,23 +60,35 @@ shared-slice-read-i : tie.Need-shared-slice-read-i Inv-loop μ-loop
 shared-slice-read-i c = omega arith
 
 cast-i : tie.Need-cast-i Inv-loop μ-loop
-cast-i c = omega (arith, c .before .before .before .before .before .before .before .before .before .pre .0 .known (c .before .before .loop .k) (omega arith))
+cast-i c =
+    let s = c .before .before in
+    omega (arith, s .before .before .before .before .before .before .before .pre .0 .known (s .loop .k) (omega arith))
 
 mul-if1 : tie.Need-mul-if1 Inv-loop μ-loop
-mul-if1 c = omega (arith, c .before .before .before .before .before .before .before .before .before .pre .0 .known (c .before .before .loop .k) (omega arith))
+mul-if1 c =
+    let s = c .before .before in
+    omega (arith, s .before .before .before .before .before .before .before .pre .0 .known (s .loop .k) (omega arith))
 
 element-copy-out-if1 : tie.Need-element-copy-out-if1 Inv-loop μ-loop
-element-copy-out-if1 c = omega (arith, c .before .before .before .before .before .before .before .before .before .pre .0 .known (c .before .before .loop .k) (omega arith))
+element-copy-out-if1 c =
+    let s = c .before .before in
+    omega (arith, s .before .before .before .before .before .before .before .pre .0 .known (s .loop .k) (omega arith))
 
 returns : tie.Need-returns Inv-loop μ-loop
 unfolding entryIn
-returns c latests = gathering-stop _ _ _ _ (c .before .before .before .before .loop .inv .0 latests) _ (c .before .before .before .before .loop .inv .2) (omega arith) (omega arith)
+returns c latests =
+    let L = c .before .before .before .before .loop in
+    gathering-stop _ _ _ _ (L .inv .0 latests) _ (L .inv .2) (omega arith) (omega arith)
 
 mul-wide-2 : tie.Need-mul-wide-2 Inv-loop μ-loop
-mul-wide-2 c = omega (arith, c .before .before .before .before .before .before .before .before .before .before .before .pre .0 .known (c .before .before .before .before .loop .k) (omega arith))
+mul-wide-2 c =
+    let s = c .before .before .before .before in
+    omega (arith, s .before .before .before .before .before .before .before .pre .0 .known (s .loop .k) (omega arith))
 
 element-copy-out-wide-2 : tie.Need-element-copy-out-wide-2 Inv-loop μ-loop
-element-copy-out-wide-2 c = omega (arith, c .before .before .before .before .before .before .before .before .before .before .before .pre .0 .known (c .before .before .before .before .loop .k) (omega arith))
+element-copy-out-wide-2 c =
+    let s = c .before .before .before .before in
+    omega (arith, s .before .before .before .before .before .before .before .pre .0 .known (s .loop .k) (omega arith))
 
 wide-requires-2 : tie.Need-wide-requires-2 Inv-loop μ-loop
 wide-requires-2 c κs = search needs
@@ -85,7 +97,9 @@ add-work : tie.Need-add-work Inv-loop μ-loop
 add-work c = omega (arith, c .before .before .before .before .before .before .before .before .before .before .before .before .before .pre .0 .few)
 
 open-end-requires-2 : tie.Need-open-end-requires-2 Inv-loop μ-loop
-open-end-requires-2 c κs = omega (arith, c .before .before .before .before .before .before .before .before .before .before .before .before .before .pre .0 .few, c .before .before .before .before .before .before .before .before .before .before .before .before .before .pre .0 .early 0 (omega arith))
+open-end-requires-2 c κs =
+    let p = c .before .before .before .before .before .before .before .before .before .before .before .before .before .pre .0 in
+    omega (arith, p .few, p .early 0 (omega arith))
 
 add-k : tie.Need-add-k Inv-loop μ-loop
 add-k c = omega arith
@@ -96,7 +110,9 @@ loop-less c = omega arith
 loop-again : tie.Need-loop-again Inv-loop μ-loop
 unfolding entryIn
 loop-again c = (
-  λ latests. rw (c .before .wide2 .ensures .same) (gathering-more _ _ _ _ (c .before .before .before .before .before .before .before .loop .inv .0 latests) (omega arith) (omega (arith, c .before .before .before .before .before .before .before .loop .inv .2, c .before .before .before .if1 .left))),
+  λ latests. rw (c .before .wide2 .ensures .same)
+      (gathering-more _ _ _ _ (c .before .before .before .before .before .before .before .loop .inv .0 latests) (omega arith)
+      (omega (arith, c .before .before .before .before .before .before .before .loop .inv .2, c .before .before .before .if1 .left))),
   omega arith,
   c .open-end2 .ensures,
   omega (arith, c .before .wide2 .ensures .small),

@@ -74,7 +74,8 @@ solve-block-calls t = (
 )
 
 abbrev cut-set-Inv-loop : cut-set-lts.InvT-loop
-cut-set-Inv-loop m befores afters ready durations latests ids₀ aside from end marks₀ pieces₀ froms₀ untils₀ count k₀ t₀ at₀ ids marks pieces froms untils k t at =
+cut-set-Inv-loop m befores afters ready durations latests ids₀ aside from end marks₀ pieces₀ froms₀ untils₀ count k₀ t₀ at₀
+    ids marks pieces froms untils k t at =
     (at ≤ length ids₀) × (length ids ≡ length ids₀) × (drop at ids ≡ drop at ids₀) × (length marks ≡ 256)
     × Tables pieces froms untils × (k + 2 * (length ids₀ - at) ≤ count + 2 * length ids₀)
     × ((f : ℕ) → length ids₀ ≤ f
@@ -84,7 +85,9 @@ cut-set-Inv-loop m befores afters ready durations latests ids₀ aside from end 
     (boardIn count pieces₀ froms₀ untils₀))
 
 abbrev cut-set-μ-loop : cut-set-lts.MeasureT-loop
-cut-set-μ-loop m befores afters ready durations latests ids₀ aside from end marks₀ pieces₀ froms₀ untils₀ count k₀ t₀ at₀ ids marks pieces froms untils k t at = length ids₀ - at
+cut-set-μ-loop m befores afters ready durations latests ids₀ aside from end marks₀ pieces₀ froms₀ untils₀ count k₀ t₀ at₀
+    ids marks pieces froms untils k t at =
+    length ids₀ - at
 
 -- the block gathered is the first of the rest of the list
 extent : (t : ℕ)
@@ -100,22 +103,27 @@ extent t c =
 
 inside : (t : ℕ)
     (c : cut-set-lts.After-gather-block (cut-set-calls t) (cut-set-at t) cut-set.Post cut-set-Inv-loop cut-set-μ-loop)
-    → c .before .before .before .before .before .before .loop .at + c .gather-block .result .count ≤ length (c .before .before .before .before .before .before .before .before .args .ids .now)
+    → c .before .before .before .before .before .before .loop .at + c .gather-block .result .count
+    ≤ length (c .before .before .before .before .before .before .before .before .args .ids .now)
 inside t c =
     let a = c .before .before .before .before .before .before .before .before .args in
     let s = c .before .before .before .before .before .before .loop in
     omega (arith, extent t c .within, rest-length (a .ids .now) (s .at), s .inv .0)
 
-cut-set-loop-holds : (t : ℕ) → cut-set-lts.Need-loop-holds (cut-set-calls t) (cut-set-at t) cut-set.Post cut-set-Inv-loop cut-set-μ-loop
+cut-set-loop-holds : (t : ℕ)
+    → cut-set-lts.Need-loop-holds (cut-set-calls t) (cut-set-at t) cut-set.Post cut-set-Inv-loop cut-set-μ-loop
 cut-set-loop-holds t c = (omega arith, refl, refl, c .before .pre .1 .marks-sized, c .before .pre .1 .tables, omega arith, λ f h. refl)
 
-cut-set-mul-first : (t : ℕ) → cut-set-lts.Need-mul-first (cut-set-calls t) (cut-set-at t) cut-set.Post cut-set-Inv-loop cut-set-μ-loop
+cut-set-mul-first : (t : ℕ)
+    → cut-set-lts.Need-mul-first (cut-set-calls t) (cut-set-at t) cut-set.Post cut-set-Inv-loop cut-set-μ-loop
 cut-set-mul-first t c = omega (arith, c .before .before .before .pre .1 .listed .few)
 
-cut-set-slice-read-first : (t : ℕ) → cut-set-lts.Need-slice-read-first (cut-set-calls t) (cut-set-at t) cut-set.Post cut-set-Inv-loop cut-set-μ-loop
+cut-set-slice-read-first : (t : ℕ)
+    → cut-set-lts.Need-slice-read-first (cut-set-calls t) (cut-set-at t) cut-set.Post cut-set-Inv-loop cut-set-μ-loop
 cut-set-slice-read-first t c = omega arith
 
-cut-set-cast-first : (t : ℕ) → cut-set-lts.Need-cast-first (cut-set-calls t) (cut-set-at t) cut-set.Post cut-set-Inv-loop cut-set-μ-loop
+cut-set-cast-first : (t : ℕ)
+    → cut-set-lts.Need-cast-first (cut-set-calls t) (cut-set-at t) cut-set.Post cut-set-Inv-loop cut-set-μ-loop
 cut-set-cast-first t c =
     let s4 = c .before .before .before .before in
     let s = c .before .before .loop in
@@ -123,7 +131,8 @@ cut-set-cast-first t c =
     let e : getD (s .ids) (s .at) 0 ≡ getD (a .ids .now) (s .at) 0 = same-at (s .ids) (a .ids .now) (s .at) (s .inv .2) in
     omega (arith, s4 .pre .1 .listed .known (s .at) (omega arith))
 
-cut-set-mul-start : (t : ℕ) → cut-set-lts.Need-mul-start (cut-set-calls t) (cut-set-at t) cut-set.Post cut-set-Inv-loop cut-set-μ-loop
+cut-set-mul-start : (t : ℕ)
+    → cut-set-lts.Need-mul-start (cut-set-calls t) (cut-set-at t) cut-set.Post cut-set-Inv-loop cut-set-μ-loop
 cut-set-mul-start t c =
     let s4 = c .before .before .before .before in
     let s = c .before .before .loop in
@@ -131,7 +140,8 @@ cut-set-mul-start t c =
     let e : getD (s .ids) (s .at) 0 ≡ getD (a .ids .now) (s .at) 0 = same-at (s .ids) (a .ids .now) (s .at) (s .inv .2) in
     omega (arith, s4 .pre .1 .listed .known (s .at) (omega arith))
 
-cut-set-element-copy-out-start : (t : ℕ) → cut-set-lts.Need-element-copy-out-start (cut-set-calls t) (cut-set-at t) cut-set.Post cut-set-Inv-loop cut-set-μ-loop
+cut-set-element-copy-out-start : (t : ℕ)
+    → cut-set-lts.Need-element-copy-out-start (cut-set-calls t) (cut-set-at t) cut-set.Post cut-set-Inv-loop cut-set-μ-loop
 cut-set-element-copy-out-start t c =
     let s4 = c .before .before .before .before in
     let s = c .before .before .loop in
@@ -139,19 +149,24 @@ cut-set-element-copy-out-start t c =
     let e : getD (s .ids) (s .at) 0 ≡ getD (a .ids .now) (s .at) 0 = same-at (s .ids) (a .ids .now) (s .at) (s .inv .2) in
     omega (arith, s4 .pre .1 .listed .known (s .at) (omega arith))
 
-cut-set-mul-gather-block : (t : ℕ) → cut-set-lts.Need-mul-gather-block (cut-set-calls t) (cut-set-at t) cut-set.Post cut-set-Inv-loop cut-set-μ-loop
+cut-set-mul-gather-block : (t : ℕ)
+    → cut-set-lts.Need-mul-gather-block (cut-set-calls t) (cut-set-at t) cut-set.Post cut-set-Inv-loop cut-set-μ-loop
 cut-set-mul-gather-block t c = omega (arith, c .before .before .before .before .before .pre .1 .listed .few)
 
-cut-set-sub-gather-block : (t : ℕ) → cut-set-lts.Need-sub-gather-block (cut-set-calls t) (cut-set-at t) cut-set.Post cut-set-Inv-loop cut-set-μ-loop
+cut-set-sub-gather-block : (t : ℕ)
+    → cut-set-lts.Need-sub-gather-block (cut-set-calls t) (cut-set-at t) cut-set.Post cut-set-Inv-loop cut-set-μ-loop
 cut-set-sub-gather-block t c = omega arith
 
-cut-set-part-gather-block-start : (t : ℕ) → cut-set-lts.Need-part-gather-block-start (cut-set-calls t) (cut-set-at t) cut-set.Post cut-set-Inv-loop cut-set-μ-loop
+cut-set-part-gather-block-start : (t : ℕ)
+    → cut-set-lts.Need-part-gather-block-start (cut-set-calls t) (cut-set-at t) cut-set.Post cut-set-Inv-loop cut-set-μ-loop
 cut-set-part-gather-block-start t c = omega arith
 
-cut-set-part-gather-block-end : (t : ℕ) → cut-set-lts.Need-part-gather-block-end (cut-set-calls t) (cut-set-at t) cut-set.Post cut-set-Inv-loop cut-set-μ-loop
+cut-set-part-gather-block-end : (t : ℕ)
+    → cut-set-lts.Need-part-gather-block-end (cut-set-calls t) (cut-set-at t) cut-set.Post cut-set-Inv-loop cut-set-μ-loop
 cut-set-part-gather-block-end t c = search needs
 
-cut-set-gather-block-requires : (t : ℕ) → cut-set-lts.Need-gather-block-requires (cut-set-calls t) (cut-set-at t) cut-set.Post cut-set-Inv-loop cut-set-μ-loop
+cut-set-gather-block-requires : (t : ℕ)
+    → cut-set-lts.Need-gather-block-requires (cut-set-calls t) (cut-set-at t) cut-set.Post cut-set-Inv-loop cut-set-μ-loop
 cut-set-gather-block-requires t c κs = let s = c .before .before .before .before .before .loop in
     let a = c .before .before .before .before .before .before .before .args in
     let e = same-rest (s .ids) (a .ids .now) (s .at) (s .inv .2) in (
@@ -159,33 +174,41 @@ cut-set-gather-block-requires t c κs = let s = c .before .before .before .befor
       rw (e, length-drop) (omega arith),
     )
 
-cut-set-add-next : (t : ℕ) → cut-set-lts.Need-add-next (cut-set-calls t) (cut-set-at t) cut-set.Post cut-set-Inv-loop cut-set-μ-loop
+cut-set-add-next : (t : ℕ)
+    → cut-set-lts.Need-add-next (cut-set-calls t) (cut-set-at t) cut-set.Post cut-set-Inv-loop cut-set-μ-loop
 cut-set-add-next t c =
     let s9 = c .before .before .before .before .before .before .before .before .before in
     omega (arith, s9 .pre .1 .listed .few, inside t (c .before))
 
-cut-set-give-slots-requires : (t : ℕ) → cut-set-lts.Need-give-slots-requires (cut-set-calls t) (cut-set-at t) cut-set.Post cut-set-Inv-loop cut-set-μ-loop
+cut-set-give-slots-requires : (t : ℕ)
+    → cut-set-lts.Need-give-slots-requires (cut-set-calls t) (cut-set-at t) cut-set.Post cut-set-Inv-loop cut-set-μ-loop
 cut-set-give-slots-requires t c κs =
     let s10 = c .before .before .before .before .before .before .before .before .before .before in
     let s12 = s10 .before .before in
     (s10 .loop .inv .4, omega (arith, s12 .pre .1 .room))
 
-cut-set-mul-solve-block : (t : ℕ) → cut-set-lts.Need-mul-solve-block (cut-set-calls t) (cut-set-at t) cut-set.Post cut-set-Inv-loop cut-set-μ-loop
-cut-set-mul-solve-block t c = omega (arith, c .before .before .before .before .before .before .before .before .before .before .before .before .before .pre .1 .listed .few)
+cut-set-mul-solve-block : (t : ℕ)
+    → cut-set-lts.Need-mul-solve-block (cut-set-calls t) (cut-set-at t) cut-set.Post cut-set-Inv-loop cut-set-μ-loop
+cut-set-mul-solve-block t c =
+    omega (arith, c .before .before .before .before .before .before .before .before .before .before .before .before .before .pre .1 .listed .few)
 
-cut-set-sub-solve-block : (t : ℕ) → cut-set-lts.Need-sub-solve-block (cut-set-calls t) (cut-set-at t) cut-set.Post cut-set-Inv-loop cut-set-μ-loop
+cut-set-sub-solve-block : (t : ℕ)
+    → cut-set-lts.Need-sub-solve-block (cut-set-calls t) (cut-set-at t) cut-set.Post cut-set-Inv-loop cut-set-μ-loop
 cut-set-sub-solve-block t c = omega arith
 
-cut-set-part-solve-block-start : (t : ℕ) → cut-set-lts.Need-part-solve-block-start (cut-set-calls t) (cut-set-at t) cut-set.Post cut-set-Inv-loop cut-set-μ-loop
+cut-set-part-solve-block-start : (t : ℕ)
+    → cut-set-lts.Need-part-solve-block-start (cut-set-calls t) (cut-set-at t) cut-set.Post cut-set-Inv-loop cut-set-μ-loop
 cut-set-part-solve-block-start t c = omega arith
 
-cut-set-part-solve-block-end : (t : ℕ) → cut-set-lts.Need-part-solve-block-end (cut-set-calls t) (cut-set-at t) cut-set.Post cut-set-Inv-loop cut-set-μ-loop
+cut-set-part-solve-block-end : (t : ℕ)
+    → cut-set-lts.Need-part-solve-block-end (cut-set-calls t) (cut-set-at t) cut-set.Post cut-set-Inv-loop cut-set-μ-loop
 cut-set-part-solve-block-end t c =
     let s5 = c .before .before .before .before .before in
     let s11 = s5 .before .before .before .before .before .before in
     omega (arith, inside t (s5), s11 .loop .inv .1)
 
-cut-set-solve-block-requires : (t : ℕ) → cut-set-lts.Need-solve-block-requires (cut-set-calls t) (cut-set-at t) cut-set.Post cut-set-Inv-loop cut-set-μ-loop
+cut-set-solve-block-requires : (t : ℕ)
+    → cut-set-lts.Need-solve-block-requires (cut-set-calls t) (cut-set-at t) cut-set.Post cut-set-Inv-loop cut-set-μ-loop
 cut-set-solve-block-requires t c κs =
     let s5 = c .before .before .before .before .before in
     let s10 = s5 .before .before .before .before .before in
@@ -208,12 +231,14 @@ cut-set-solve-block-requires t c κs =
       },
     )
 
-cut-set-loop-less : (t : ℕ) → cut-set-lts.Need-loop-less (cut-set-calls t) (cut-set-at t) cut-set.Post cut-set-Inv-loop cut-set-μ-loop
+cut-set-loop-less : (t : ℕ)
+    → cut-set-lts.Need-loop-less (cut-set-calls t) (cut-set-at t) cut-set.Post cut-set-Inv-loop cut-set-μ-loop
 cut-set-loop-less t c =
     let s13 = c .before .before .before .before .before .before .before .before .before .before .before .before .before in
     omega (arith, inside t (s13), extent t (s13) .some-one)
 
-cut-set-loop-again : (t : ℕ) → cut-set-lts.Need-loop-again (cut-set-calls t) (cut-set-at t) cut-set.Post cut-set-Inv-loop cut-set-μ-loop
+cut-set-loop-again : (t : ℕ)
+    → cut-set-lts.Need-loop-again (cut-set-calls t) (cut-set-at t) cut-set.Post cut-set-Inv-loop cut-set-μ-loop
 cut-set-loop-again t c =
     let s8 = c .before .before .before .before .before .before .before .before in
     let s13 = s8 .before .before .before .before .before in
@@ -250,16 +275,19 @@ cut-set-loop-again t c =
           ∙ s .inv .6 f h,
     )
 
-cut-set-give-slots-requires-2 : (t : ℕ) → cut-set-lts.Need-give-slots-requires-2 (cut-set-calls t) (cut-set-at t) cut-set.Post cut-set-Inv-loop cut-set-μ-loop
+cut-set-give-slots-requires-2 : (t : ℕ)
+    → cut-set-lts.Need-give-slots-requires-2 (cut-set-calls t) (cut-set-at t) cut-set.Post cut-set-Inv-loop cut-set-μ-loop
 cut-set-give-slots-requires-2 t c κs =
     let s4 = c .before .before .before .before in
     let s6 = s4 .before .before in
     (s4 .loop .inv .4, omega (arith, s6 .pre .1 .room))
 
-cut-set-same-length : (t : ℕ) → cut-set-lts.Need-same-length (cut-set-calls t) (cut-set-at t) cut-set.Post cut-set-Inv-loop cut-set-μ-loop
+cut-set-same-length : (t : ℕ)
+    → cut-set-lts.Need-same-length (cut-set-calls t) (cut-set-at t) cut-set.Post cut-set-Inv-loop cut-set-μ-loop
 cut-set-same-length t c = c .before .before .before .before .before .loop .inv .1
 
-cut-set-returns : (t : ℕ) → cut-set-lts.Need-returns (cut-set-calls t) (cut-set-at t) cut-set.Post cut-set-Inv-loop cut-set-μ-loop
+cut-set-returns : (t : ℕ)
+    → cut-set-lts.Need-returns (cut-set-calls t) (cut-set-at t) cut-set.Post cut-set-Inv-loop cut-set-μ-loop
 cut-set-returns t c = let a = c .before .before .before .before .before .before .before .args in
     let s = c .before .before .before .before .before .loop in
     let g = c .give-slots2 .ensures in (
@@ -274,12 +302,14 @@ cut-set-returns t c = let a = c .before .before .before .before .before .before 
           ∙ s .inv .6 f h,
     )
 
-solve-block-set-aside-requires : (t : ℕ) → solve-block-lts.Need-set-aside-requires (solve-block-calls t) (solve-block-at t) solve-block.Post
+solve-block-set-aside-requires : (t : ℕ)
+    → solve-block-lts.Need-set-aside-requires (solve-block-calls t) (solve-block-at t) solve-block.Post
 solve-block-set-aside-requires t c κs =
     let s3 = c .before .before .before in
     (s3 .pre .1 .links, (s3 .pre .1 .listed .known, s3 .pre .1 .marks-sized))
 
-solve-block-same-length : (t : ℕ) → solve-block-lts.Need-same-length (solve-block-calls t) (solve-block-at t) solve-block.Post
+solve-block-same-length : (t : ℕ)
+    → solve-block-lts.Need-same-length (solve-block-calls t) (solve-block-at t) solve-block.Post
 solve-block-same-length t c = refl
 
 solve-block-returns : (t : ℕ) → solve-block-lts.Need-returns (solve-block-calls t) (solve-block-at t) solve-block.Post
@@ -294,19 +324,22 @@ solve-block-returns t c = let a = c .before .before .before .before .before .arg
       (c .before .set-aside .result) (c .before .set-aside .ensures .0) _ (c .if1 .taken),
 )
 
-solve-block-without-requires : (t : ℕ) → solve-block-lts.Need-without-requires (solve-block-calls t) (solve-block-at t) solve-block.Post
+solve-block-without-requires : (t : ℕ)
+    → solve-block-lts.Need-without-requires (solve-block-calls t) (solve-block-at t) solve-block.Post
 solve-block-without-requires t c κs = tt
 
 solve-block-slice-relend-prefix-cut-set :
     (t : ℕ) → solve-block-lts.Need-slice-relend-prefix-cut-set (solve-block-calls t) (solve-block-at t) solve-block.Post
 solve-block-slice-relend-prefix-cut-set t c = c .before .before .without .ensures .within
 
-solve-block-slice-aggregate-cut-set : (t : ℕ) → solve-block-lts.Need-slice-aggregate-cut-set (solve-block-calls t) (solve-block-at t) solve-block.Post
+solve-block-slice-aggregate-cut-set : (t : ℕ)
+    → solve-block-lts.Need-slice-aggregate-cut-set (solve-block-calls t) (solve-block-at t) solve-block.Post
 solve-block-slice-aggregate-cut-set t c =
     let s3 = c .before .before .before in
     sym (length-take-le _ (s3 .without .last .0) (s3 .without .ensures .within))
 
-solve-block-cut-set-requires : (t : ℕ) → solve-block-lts.Need-cut-set-requires (solve-block-calls t) (solve-block-at t) solve-block.Post
+solve-block-cut-set-requires : (t : ℕ)
+    → solve-block-lts.Need-cut-set-requires (solve-block-calls t) (solve-block-at t) solve-block.Post
 solve-block-cut-set-requires t c κs =
     let s7 = c .before .before .before .before .before .before .before in
     let s9 = s7 .before .before in
@@ -329,14 +362,16 @@ solve-block-cut-set-requires t c κs =
       },
     )
 
-solve-block-same-length-2 : (t : ℕ) → solve-block-lts.Need-same-length-2 (solve-block-calls t) (solve-block-at t) solve-block.Post
+solve-block-same-length-2 : (t : ℕ)
+    → solve-block-lts.Need-same-length-2 (solve-block-calls t) (solve-block-at t) solve-block.Post
 solve-block-same-length-2 t c =
     let s10 = c .before .before .before .before .before .before .before .before .before .before in
     length-front (s10 .without .last .0) (c .before .before .cut-set .last .1 .1 .1 .1 .1 .1 .0) (s10 .without .result)
     (c .before .before .cut-set .kept .1 .1 .1 .1 .1 .1 .0)
     ∙ s10 .without .kept .0
 
-solve-block-returns-2 : (t : ℕ) → solve-block-lts.Need-returns-2 (solve-block-calls t) (solve-block-at t) solve-block.Post
+solve-block-returns-2 : (t : ℕ)
+    → solve-block-lts.Need-returns-2 (solve-block-calls t) (solve-block-at t) solve-block.Post
 solve-block-returns-2 t c =
     let s10 = c .before .before .before .before .before .before .before .before .before .before in
     let s12 = s10 .before .before in
