@@ -36,7 +36,8 @@ use Rattle.method.specs.Method.{around, solved}
 use Rattle.method.proofs.Solved.{board-holds, board-tidy}
 use Rattle.method.proofs.SameLinks.{Agree, set-same}
 use Rattle.method.proofs.Turned.{board-runs}
-use Rattle.method.proofs.OfDesk.{entries-distinct, entries-links, works-early, works-own}
+use Rattle.demands.proofs.Agreement.{entries-distinct, links-ahead}
+use Rattle.method.proofs.OfDesk.{works-early, works-own}
 use Rattle.method.proofs.Late.{runLate, worst-of-runs}
 use Rattle.blocksteps.specs.Listed.{entryIn, tiedIn, Listed}
 use Rattle.ready.proofs.FromTables.{raised-most}
@@ -191,10 +192,10 @@ module _ (J : Job) (n m : ℕ) (desks durations befores afters ready : List ℕ)
           sym (ap (runsFrom none) (turns-of J d (blockWorked J d) (horizon J))
           ∙ board-runs (isOpen J d) (always-open J d) (blockWorked J d) (horizon J) k pieces froms untils
           (rw board-is (board-tidy (linked J) (isOpen J d) (openEnd J d) (desk-hours J d) es (entries-distinct J d)
-          (entries-links J (e .sound) (e .free) d) (length es) 0 0 (omega arith)))
+          (links-ahead J (e .sound) (e .free) d) (length es) 0 0 (omega arith)))
           (λ t. ap (λ (b : List Stretch). holder (isOpen J d) b t) board-is
           ∙ board-holds (linked J) (isOpen J d) (openEnd J d) (desk-hours J d) es (entries-distinct J d)
-          (entries-links J (e .sound) (e .free) d) (length es) 0 0 t (omega arith))
+          (links-ahead J (e .sound) (e .free) d) (length es) 0 0 t (omega arith))
           (works-early J (e .sound) (e .free) d))
 
       -- Each run is of a piece of the desk, and over by the horizon.

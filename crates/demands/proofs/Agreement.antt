@@ -15,12 +15,12 @@ use Rattle.rules.specs.Tables.{Sound}
 use Rattle.rules.specs.Urgency.{worked, horizon}
 use Rattle.rules.specs.Runs.{runsFrom, turns, runs}
 use Rattle.rules.specs.Entries.{Entry, raised, entry, entries}
-use Rattle.rules.specs.Blocks.{costsLess, cheapest, withoutFollower, blockWorked}
+use Rattle.rules.specs.Blocks.{cheapest, withoutFollower, blockWorked}
 use Rattle.rules.specs.BlockSheet.{blockRuns}
 use Rattle.laws.proofs.Sound.{linked-link}
 use Rattle.laws.proofs.Latest.{before-is-sooner}
 use Rattle.theory.proofs.Lists.{map-mem, Distinct}
-use Rattle.theory.proofs.EntryOrder.{number, urgent}
+use Rattle.laws.proofs.Order.{itself, number, urgent, same-order}
 use Rattle.theory.proofs.OneBlock.{readyAt, lasting}
 use Rattle.theory.proofs.SetAside.{LinksAhead, clause-idle}
 use Rattle.theory.proofs.Renamed.{distinct-map, obeys-map}
@@ -28,20 +28,15 @@ use Rattle.theory.proofs.Rule.{Obeys}
 use Rattle.theory.proofs.BlockMethod.{set-agrees}
 use Rattle.demands.specs.Accepted.{AcceptedAs}
 use Rattle.demands.proofs.Accepting.{accepted-sound, accepted-free}
-use Rattle.demands.proofs.OneDesk.{itself, pieces-distinct, desk-hours, desk-obeys}
+use Rattle.demands.proofs.OneDesk.{pieces-distinct, desk-hours, desk-obeys}
 
--- The order of urgency of two entries is that of their pieces.
-same-order : (J : Job) (i j : ℕ) → urgent (entry J i) (entry J j) ≡ sooner J i j
-unfolding entry costsLess sooner
-same-order J i j = refl
+pub entries-distinct : (J : Job) (d : ℕ) → Distinct number (entries J d)
+unfolding entries entry
+entries-distinct J d =
+    distinct-map (entry J) itself (raised J) (duration J) number readyAt lasting (λ i. refl) (deskPieces J d)
+    (pieces-distinct J d)
 
 module _ (J : Job) (sound : Sound J) (free : ringPiece J ≡ none) (d : ℕ) where
-  pub entries-distinct : Distinct number (entries J d)
-  unfolding entries entry
-  entries-distinct =
-      distinct-map (entry J) itself (raised J) (duration J) number readyAt lasting (λ i. refl) (deskPieces J d)
-      (pieces-distinct J d)
-
   entries-obey : Obeys number readyAt lasting (isOpen J d) urgent (entries J d) (worked J d)
   unfolding entries entry
   entries-obey =
@@ -58,11 +53,12 @@ module _ (J : Job) (sound : Sound J) (free : ringPiece J ≡ none) (d : ℕ) whe
       let first : sooner J (i .0) (j .0) ≡ true = rw (l .2, l .3) at (before-is-sooner J sound free (l .0) (l .1)) in
       rw (i .2, j .2) (same-order J (i .0) (j .0) ∙ first)
 
-  agrees : (t : ℕ) → blockWorked J d t ≡ worked J d t
+  -- The block method works in every slot on the piece that the plan works on.
+  pub agrees : (t : ℕ) → blockWorked J d t ≡ worked J d t
   unfolding blockWorked
   agrees t =
       set-agrees (linked J) (isOpen J d) (openEnd J d) (desk-hours J d) (length (entries J d)) (entries J d) (le-refl _)
-      entries-distinct links-ahead (worked J d) entries-obey t
+      (entries-distinct J d) links-ahead (worked J d) entries-obey t
 
 module _ (file : List ℕ) (J : Job) (accept : AcceptedAs file J) (d : ℕ) where
   -- DEMAND 3, FIRST HALF: the same piece in the same slot, for all slots.

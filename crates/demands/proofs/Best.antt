@@ -12,18 +12,17 @@ use lib.Dec.{ltb}
 use lib.IntN.{ℤ}
 use lib.Signed.{leZ}
 use Rattle.rules.specs.Words.{isIt}
-use Rattle.rules.specs.Job.{Job, desk, duration, deskPieces}
+use Rattle.rules.specs.Job.{Job, duration, deskPieces}
 use Rattle.rules.specs.Hours.{isOpen, openEnd}
 use Rattle.rules.specs.Moments.{latest, sooner}
 use Rattle.rules.specs.Rings.{linked, ringPiece}
 use Rattle.rules.specs.Tables.{Sound}
 use Rattle.rules.specs.Urgency.{worked, finish}
-use Rattle.rules.specs.Plan.{lateness}
 use Rattle.rules.specs.Entries.{ready, raised}
 use Rattle.laws.proofs.Words.{by-test}
 use Rattle.laws.proofs.Sound.{fits}
 use Rattle.laws.proofs.Signed.{leZ-le, le-leZ}
-use Rattle.laws.proofs.Order.{sooner-latest}
+use Rattle.laws.proofs.Order.{itself, sooner-latest}
 use Rattle.laws.proofs.Hours.{always-open}
 use Rattle.laws.proofs.Slots.{it-is, mem-deskPieces, deskPieces-mem, worked-chosen}
 use Rattle.theory.proofs.Count.{cnt, cnt-hit}
@@ -37,7 +36,7 @@ use Rattle.demands.specs.Accepted.{AcceptedAs}
 use Rattle.demands.specs.Allowed.{AllowedPlan, worstLateness}
 use Rattle.demands.proofs.Accepting.{accepted-sound, accepted-free}
 use Rattle.demands.proofs.Finishes.{none-left, had-all, finished-at-finish}
-use Rattle.demands.proofs.OneDesk.{itself, pieces-distinct, desk-hours, urgency, had-here, waits-linked, raised-moments, desk-obeys}
+use Rattle.demands.proofs.OneDesk.{pieces-distinct, desk-hours, urgency, had-here, waits-linked, raised-moments, desk-obeys}
 
 module _ (J : Job) (sound : Sound J) (free : ringPiece J ≡ none) (d : ℕ) where
   some-work : (i : ℕ) → Mem i (deskPieces J d) → 1 ≤ duration J i

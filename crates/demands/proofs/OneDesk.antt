@@ -2,14 +2,14 @@
 -- and so by the rule without links over the raised ready moments. From here the mathematics of one desk takes over.
 use Prim.Native.Nat.{ℕ, zero, suc, _+_, _≤_, _<_}
 use mathlib.Core.Bool.{Bool, true, false}
-use mathlib.Core.List.{List, _∷_, List·Memᴰ as Mem, List·Memᴰ·head as here}
+use mathlib.Core.List.{List, _∷_, List·Memᴰ as Mem}
 use mathlib.Core.Option.{none}
-use mathlib.Core.Path.{_≡_, sym, ap, _∙_}
+use mathlib.Core.Path.{_≡_, sym, ap, _∙_, fun-ext}
 use native.Mathlib.Omega.{arith}
 use borrow.Author.Tests.{eqb-true, eqb-false}
 use lib.Dec.{eqb}
 use Rattle.rules.specs.Words.{when, keep, row, below}
-use Rattle.rules.specs.Job.{Job, pieceCount, piece, desk, duration, deskPieces}
+use Rattle.rules.specs.Job.{Job, pieceCount, desk, duration, deskPieces}
 use Rattle.rules.specs.Hours.{isOpen, openEnd}
 use Rattle.rules.specs.Moments.{delay, sooner}
 use Rattle.rules.specs.Rings.{linked, ringPiece}
@@ -18,10 +18,10 @@ use Rattle.rules.specs.Urgency.{workAt, worked, finish}
 use Rattle.rules.specs.Entries.{ready, raised}
 use Rattle.laws.proofs.Words.{by-test, true-or-false, mem-row, mem-keep}
 use Rattle.laws.proofs.Sound.{fits, link-fit, into-link, link-into, linked-link, link-linked}
-use Rattle.laws.proofs.Order.{sooner-asym, sooner-trans, sooner-total}
+use Rattle.laws.proofs.Order.{itself, sooner-asym, sooner-trans, sooner-total}
 use Rattle.laws.proofs.Latest.{before-is-sooner}
 use Rattle.laws.proofs.Delay.{delay-own-desk}
-use Rattle.laws.proofs.Hours.{always-open}
+use Rattle.laws.proofs.Hours.{always-open, end-is}
 use Rattle.laws.proofs.Raised as R
 use Rattle.laws.proofs.Slots.{Waits, by-choice, mem-deskPieces, deskPieces-mem, worked-chosen, choice-none, ready-release, ready-before, ready-intro, handed-fact, fact-handed}
 use Rattle.laws.proofs.Progress.{leftAt, finish-past}
@@ -32,10 +32,6 @@ use Rattle.theory.proofs.Plans.{did}
 use Rattle.theory.proofs.Rule.{Obeys, work, rest}
 use Rattle.theory.proofs.Links.{Linked, ObeysLinks, Raised, links-disappear}
 use Rattle.demands.proofs.Finishes.{left-and-had, finish-settled, finished-by}
-
--- A piece is its own number.
-abbrev pub itself : ℕ → ℕ
-itself i = i
 
 -- Numbers in a row are different, and so are those of them that are kept.
 with-head : (b : Bool) (a : ℕ) (l : List ℕ) → ((i : ℕ) → Mem i l → i ≡ a → ⊥) → Distinct itself l
@@ -57,8 +53,8 @@ pieces-distinct J d = row-distinct (λ i. eqb (desk J i) d) (pieceCount J) 0
 
 -- Every desk is open always, so k slots since t end at t + k.
 pub desk-hours : (J : Job) (d : ℕ) → Hours (isOpen J d) (openEnd J d)
-unfolding openEnd
-desk-hours J d = hours-always (isOpen J d) (always-open J d)
+desk-hours J d =
+    rw (fun-ext (λ t. fun-ext (end-is J d t))) (hours-always (isOpen J d) (always-open J d))
 
 pub urgency : (J : Job) → Urgency itself (sooner J)
 urgency J = record {

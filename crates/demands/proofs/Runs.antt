@@ -2,7 +2,7 @@
 -- the runs of a desk rise and do not overlap, and result and run records fit 48 bytes for each piece.
 use Prim.Native.Nat.{ℕ, zero, suc, _+_, _-_, _*_, _≤_, _<_}
 use mathlib.Core.Bool.{Bool, false}
-use mathlib.Core.List.{List, [], _∷_, _++_, map, List·Memᴰ as Mem, List·Memᴰ·head as here, List·Memᴰ·append-cases}
+use mathlib.Core.List.{List, _∷_, _++_, map, List·Memᴰ as Mem, List·Memᴰ·head as here, List·Memᴰ·append-cases, []}
 use mathlib.Core.Logic.{⊎-elim}
 use mathlib.Core.Option.{none}
 use mathlib.Core.Path.{_≡_, refl, sym, ap, _∙_}
@@ -35,7 +35,8 @@ use Rattle.theory.proofs.RunTruth.{TrueRun}
 use Rattle.theory.proofs.RunOrder.{Rising, runs-true, runs-rising}
 use Rattle.demands.specs.Accepted.{AcceptedAs}
 use Rattle.demands.proofs.Accepting.{accepted-sound, accepted-free}
-use Rattle.demands.proofs.OneDesk.{itself, pieces-distinct, urgency, had-here, desk-obeys}
+use Rattle.laws.proofs.Order.{itself}
+use Rattle.demands.proofs.OneDesk.{pieces-distinct, urgency, had-here, desk-obeys}
 
 runs-are : (J : Job) (d : ℕ) → runs J d ≡ runsFrom none (turnsOf (isOpen J d) (worked J d) (horizon J))
 unfolding runs

@@ -2,7 +2,7 @@
 -- -367,200 and 40,000, and a piece before goes before the piece after it.
 use Prim.Native.Nat.{ℕ, suc, _*_, _≤_, _<_}
 use mathlib.Core.Bool.{true}
-use mathlib.Core.List.{List, [], _∷_, map, List·Memᴰ as Mem, List·Memᴰ·head as here}
+use mathlib.Core.List.{List, _∷_, map, List·Memᴰ as Mem, List·Memᴰ·head as here, []}
 use mathlib.Core.Option.{none}
 use mathlib.Core.Path.{_≡_, refl, sym, ap, _∙_}
 use native.Mathlib.Omega.{arith}
@@ -16,14 +16,14 @@ use Rattle.rules.specs.Tables.{Sound}
 use Rattle.rules.specs.declared.Link.{Link}
 use Rattle.laws.proofs.Words.{map-same, mem-map}
 use Rattle.laws.proofs.Signed.{up, dn, _≼_, minus, least-start, least-mem, least-within, below-zero, below-zero-is}
-use Rattle.laws.proofs.Delay.{delay-most}
+use Rattle.laws.proofs.Delay.{takes-off-least, takes-off-most}
 use Rattle.laws.proofs.Sound.{fits, link-fit, from-link, link-from, behind, behind-falls, behind-few, along-after}
 use Rattle.laws.proofs.Order.{smaller-sooner}
 use Rattle.laws.proofs.Settling.{settles}
 
 -- What the pieces after i leave it, given their latest moments: the right side of the page's equation.
 unfoldable pub asked : Job → (ℕ → ℤ) → ℕ → ℤ
-unfolding leastZ linksFrom takesOff
+unfolding leastZ linksFrom
 asked J moment i = leastZ (pos (piece J i .due)) (map (λ l. moment (l .after) -ℤ pos (takesOff J l)) (linksFrom J i))
 
 -- It looks at the pieces after i alone.
@@ -55,16 +55,6 @@ asked-most J f i c h k = least-within (pos (piece J i .due)) c (λ l. f (l .afte
 pub within-more : (J : Job) (n i : ℕ) → latestWithin J (suc n) i ≡ asked J (latestWithin J n) i
 unfolding latestWithin asked
 within-more J n i = refl
-
--- A follower takes off at least 1.
-pub takes-off-least : (J : Job) → Sound J → (l : Link) → Mem l (J .links) → 1 ≤ takesOff J l
-unfolding takesOff
-takes-off-least J sound l m = omega (arith, fits J sound (l .after) (link-fit J sound l m .after-one) .duration-least)
-
-pub takes-off-most : (J : Job) → Sound J → (l : Link) → Mem l (J .links) → takesOff J l ≤ 1440
-unfolding takesOff
-takes-off-most J sound l m =
-    omega (arith, fits J sound (l .after) (link-fit J sound l m .after-one) .duration-most, delay-most J sound l m)
 
 -- A signed number in the range of latest moments, in every word in which code asks for a range.
 pub record Near (z : ℤ) : Type 0 where

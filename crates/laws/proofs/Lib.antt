@@ -4,6 +4,7 @@ pub mod Joined
 pub mod Rings
 pub mod Sound
 pub mod Signed
+pub mod Earlier
 pub mod Order
 pub mod Delay
 pub mod Hours

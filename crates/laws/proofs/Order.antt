@@ -1,82 +1,77 @@
 -- The order of urgency is a strict order in which any two different pieces stand one before the other, and a smaller
--- latest moment goes before. These laws are all that is used of `sooner`.
+-- latest moment goes before. These laws are all that is used of `sooner`, and of `costsLess` of the block method: what
+-- the order goes by is known here alone.
 use Prim.Native.Nat.{ℕ, _<_}
-use mathlib.Core.Bool.{true, false, _&&_}
-use mathlib.Core.Logic.{_⊎_, inl, inr}
-use mathlib.Core.Path.{_≡_}
-use native.Mathlib.Omega.{arith}
-use borrow.Author.Tests.{ltb-true, ltb-false, lt-ltb}
+use mathlib.Core.Bool.{Bool, true, false, _&&_, _||_}
+use mathlib.Core.Logic.{inl, inr}
+use mathlib.Core.Path.{_≡_, refl}
 use lib.Dec.{ltb}
 use lib.Signed.{ltZ, leZ}
 use Rattle.rules.specs.Job.{Job}
 use Rattle.rules.specs.Moments.{latest, sooner}
-use Rattle.laws.proofs.Words.{by-test, and-true, and-false, and-intro, or-true, or-false, or-left, or-right}
-use Rattle.laws.proofs.Signed.{_≼_, _≺_, ltZ-lt, ltZ-le, leZ-le, leZ-lt, lt-ltZ, le-leZ}
+use Rattle.rules.specs.Entries.{Entry, entry}
+use Rattle.rules.specs.Blocks.{costsLess}
+use Rattle.laws.proofs.Signed.{_≼_, _≺_}
+use Rattle.laws.proofs.Earlier as E
+
+-- A piece is its own number.
+abbrev pub itself : ℕ → ℕ
+itself i = i
 
 module _ (J : Job) where
-  -- Piece i goes before piece j: by the latest moment, or by the number where that is equal.
-  pub Sooner : ℕ → ℕ → Type 0
-  Sooner i j = (latest J i ≺ latest J j) ⊎ ((latest J i ≼ latest J j) × (i < j))
-
-  pub sooner-fact : (i j : ℕ) → sooner J i j ≡ true → Sooner i j
-  unfolding sooner Sooner
-  sooner-fact i j h = go (or-true (ltZ (latest J i) (latest J j)) (leZ (latest J i) (latest J j) && ltb i j) h)
-    where
-      go : (ltZ (latest J i) (latest J j) ≡ true) ⊎ ((leZ (latest J i) (latest J j) && ltb i j) ≡ true) → Sooner i j
-      go (inl e) = inl (ltZ-lt _ _ e)
-      go (inr e) =
-          let w = and-true (leZ (latest J i) (latest J j)) (ltb i j) e in
-          inr (leZ-le _ _ (w .0), ltb-true i j (w .1))
-
-  pub fact-sooner : (i j : ℕ) → Sooner i j → sooner J i j ≡ true
-  unfolding sooner Sooner
-  fact-sooner i j (inl h) = or-left _ _ (lt-ltZ (latest J i) (latest J j) h)
-  fact-sooner i j (inr h) =
-      or-right (ltZ (latest J i) (latest J j)) _ (and-intro _ _ (le-leZ (latest J i) (latest J j) (h .0)) (lt-ltb i j (h .1)))
-
-  -- A smaller latest moment goes before.
-  pub smaller-sooner : (i j : ℕ) → latest J i ≺ latest J j → sooner J i j ≡ true
-  unfolding Sooner
-  smaller-sooner i j h = fact-sooner i j (inl h)
-
-  pub sooner-latest : (i j : ℕ) → sooner J i j ≡ true → latest J i ≼ latest J j
-  unfolding Sooner
-  sooner-latest i j h = go (sooner-fact i j h)
-    where
-      go : Sooner i j → latest J i ≼ latest J j
-      go (inl e) = omega arith
-      go (inr e) = e .0
-
-  clash : (i j : ℕ) → Sooner i j → Sooner j i → ⊥
-  unfolding Sooner
-  clash i j (inl h) (inl k) = omega arith
-  clash i j (inl h) (inr k) = omega (arith, k .0)
-  clash i j (inr h) (inl k) = omega (arith, h .0)
-  clash i j (inr h) (inr k) = omega (arith, h .1, k .1)
-
   pub sooner-asym : (i j : ℕ) → sooner J i j ≡ true → sooner J j i ≡ false
-  sooner-asym i j h = by-test (sooner J j i) (λ e. absurd (clash i j (sooner-fact i j h) (sooner-fact j i e))) (λ e. e)
-
-  pub sooner-irrefl : (i : ℕ) → sooner J i i ≡ false
-  sooner-irrefl i = by-test (sooner J i i) (λ e. absurd (clash i i (sooner-fact i i e) (sooner-fact i i e))) (λ e. e)
-
-  joined-up : (i j k : ℕ) → Sooner i j → Sooner j k → Sooner i k
-  unfolding Sooner
-  joined-up i j k (inl a) (inl b) = inl (omega arith)
-  joined-up i j k (inl a) (inr b) = inl (omega (arith, b .0))
-  joined-up i j k (inr a) (inl b) = inl (omega (arith, a .0))
-  joined-up i j k (inr a) (inr b) = inr (omega (arith, a .0, b .0), omega (arith, a .1, b .1))
+  unfolding sooner E.earlier
+  sooner-asym = E.earlier-asym (latest J) itself
 
   pub sooner-trans : (i j k : ℕ) → sooner J i j ≡ true → sooner J j k ≡ true → sooner J i k ≡ true
-  sooner-trans i j k a b = fact-sooner i k (joined-up i j k (sooner-fact i j a) (sooner-fact j k b))
+  unfolding sooner E.earlier
+  sooner-trans = E.earlier-trans (latest J) itself
 
   -- Of two different pieces one goes before the other.
   pub sooner-total : (i j : ℕ) → (i ≡ j → ⊥) → sooner J i j ≡ false → sooner J j i ≡ true
-  unfolding sooner Sooner
-  sooner-total i j ne h =
-      let w = or-false (ltZ (latest J i) (latest J j)) (leZ (latest J i) (latest J j) && ltb i j) h in
-      fact-sooner j i (go (ltZ-le _ _ (w .0)) (and-false (leZ (latest J i) (latest J j)) (ltb i j) (w .1)))
-    where
-      go : latest J j ≼ latest J i → (leZ (latest J i) (latest J j) ≡ false) ⊎ (ltb i j ≡ false) → Sooner j i
-      go k (inl e) = inl (leZ-lt _ _ e)
-      go k (inr e) = inr (k, omega (arith, ltb-false i j e))
+  unfolding sooner E.earlier
+  sooner-total = E.earlier-total (latest J) itself
+
+  -- A smaller latest moment goes before, and so does a lower number unless its latest moment is greater.
+  pub smaller-sooner : (i j : ℕ) → latest J i ≺ latest J j → sooner J i j ≡ true
+  unfolding sooner E.earlier
+  smaller-sooner i j h = E.fact-earlier (latest J) itself i j (inl h)
+
+  pub lower-sooner : (i j : ℕ) → latest J i ≼ latest J j → i < j → sooner J i j ≡ true
+  unfolding sooner E.earlier
+  lower-sooner i j h l = E.fact-earlier (latest J) itself i j (inr (h, l))
+
+  pub sooner-latest : (i j : ℕ) → sooner J i j ≡ true → latest J i ≼ latest J j
+  unfolding sooner E.earlier
+  sooner-latest = E.earlier-latest (latest J) itself
+
+-- Of two entries the more urgent is the one that costs more at a block's end.
+abbrev pub urgent : Entry → Entry → Bool
+urgent a b = costsLess b a
+
+abbrev pub number : Entry → ℕ
+number e = e .number
+
+pub urgent-asym : (a b : Entry) → urgent a b ≡ true → urgent b a ≡ false
+unfolding costsLess E.earlier
+urgent-asym = E.earlier-asym (λ (e : Entry). e .latest) number
+
+pub urgent-trans : (a b c : Entry) → urgent a b ≡ true → urgent b c ≡ true → urgent a c ≡ true
+unfolding costsLess E.earlier
+urgent-trans = E.earlier-trans (λ (e : Entry). e .latest) number
+
+pub urgent-total : (a b : Entry) → (number a ≡ number b → ⊥) → urgent a b ≡ false → urgent b a ≡ true
+unfolding costsLess E.earlier
+urgent-total = E.earlier-total (λ (e : Entry). e .latest) number
+
+-- What a comparison of two entries looks at.
+pub costs-less-is : (a b : Entry)
+    → costsLess a b
+    ≡ (ltZ (b .latest) (a .latest) || (leZ (b .latest) (a .latest) && ltb (b .number) (a .number)))
+unfolding costsLess
+costs-less-is a b = refl
+
+-- The order of two entries is that of their pieces.
+pub same-order : (J : Job) (i j : ℕ) → urgent (entry J i) (entry J j) ≡ sooner J i j
+unfolding entry costsLess sooner
+same-order J i j = refl

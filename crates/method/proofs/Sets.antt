@@ -16,7 +16,7 @@ use Rattle.laws.proofs.Words.{by-test, and-true, and-intro, or-true, or-left, o
 use Rattle.theory.proofs.Cases.{by-le, by-eq, clash}
 use Rattle.theory.proofs.Lists.{_∈_, Distinct}
 use Rattle.theory.proofs.Order.{Urgency, Ordered, mem-sorted, sorted-distinct, sorted-ordered}
-use Rattle.theory.proofs.EntryOrder.{number}
+use Rattle.laws.proofs.Order.{number}
 use Rattle.theory.proofs.SetAside.{LinksAhead, keep-distinct}
 use Rattle.theory.proofs.BlockMethod.{waits, in-order}
 

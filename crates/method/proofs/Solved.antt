@@ -16,7 +16,7 @@ use Rattle.theory.proofs.Cases.{by-le}
 use Rattle.theory.proofs.Hours.{Hours}
 use Rattle.theory.proofs.Lists.{_∈_, Distinct, sumOf}
 use Rattle.theory.proofs.Plans.{busy}
-use Rattle.theory.proofs.EntryOrder.{number}
+use Rattle.laws.proofs.Order.{number}
 use Rattle.theory.proofs.OneBlock.{lasting}
 use Rattle.theory.proofs.SetAside.{LinksAhead, set-aside, others-shorter, mem-others}
 use Rattle.theory.proofs.BlockShape.{BlocksRise, count, cut-rises, cut-count}

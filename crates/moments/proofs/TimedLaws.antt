@@ -14,7 +14,8 @@ use Rattle.rules.specs.Job.{Job, pieceCount, piece, desk}
 use Rattle.rules.specs.Moments.{delay, takesOff, latest}
 use Rattle.rules.specs.Tables.{pieceIn, linkIn, noLink}
 use Rattle.rules.specs.declared.Link.{Link}
-use Rattle.laws.proofs.Latest.{asked-most, takes-off-most, latest-equation, latest-due, latest-after, latest-near}
+use Rattle.laws.proofs.Delay.{takes-off-most}
+use Rattle.laws.proofs.Latest.{asked-most, latest-equation, latest-due, latest-after, latest-near}
 use Rattle.laws.proofs.Signed.{_≼_, same}
 use Rattle.laws.proofs.Sound.{fits, mem-place, place-mem, from-link}
 use Rattle.laws.proofs.Words.{by-test}

@@ -7,7 +7,6 @@ use native.Mathlib.Omega.{arith}
 use lib.ListN.{length, getD, length-map}
 use Rattle.rules.specs.Words.{below}
 use Rattle.rules.specs.Job.{Job, pieceCount, piece, desk, duration, noPiece}
-use Rattle.rules.specs.Hours.{openEnd}
 use Rattle.rules.specs.Rings.{ringPiece}
 use Rattle.rules.specs.Tables.{pieceIn, linkIn, piecesIn, linksIn, jobIn, Sound}
 use Rattle.rules.specs.Entries.{ready, raised}
@@ -17,6 +16,7 @@ use Rattle.laws.proofs.Words.{length-below, getD-below, mem-below, below-mem, m
 use Rattle.laws.proofs.Joined.{mem-of-map}
 use Rattle.laws.proofs.Sound.{fits, link-fit, into-link, ahead, ahead-falls, ahead-few, along-before}
 use Rattle.laws.proofs.Delay.{delay-most}
+use Rattle.laws.proofs.Hours.{end-is}
 use Rattle.laws.proofs.Raised.{elsewhere-link, own-link, ready-least, raised-least}
 use Rattle.demands.proofs.Finishes.{finish-most}
 use Rattle.ready.specs.Planned.{Planned}
@@ -104,7 +104,6 @@ module _ (J : Job) (sound : Sound J) (free : ringPiece J ≡ none) where
       ))
 
   raised-high : (i : ℕ) → i < pieceCount J → raised J i ≤ 408640 + 960 * ahead J sound free i
-  unfolding openEnd
   raised-high =
       along-before J sound free {P = λ i. raised J i ≤ 408640 + 960 * ahead J sound free i}
       (λ i h prior.
@@ -114,7 +113,12 @@ module _ (J : Job) (sound : Sound J) (free : ringPiece J ≡ none) where
       let b = link-fit J sound l (w .0) .before-one in
       let q : ahead J sound free (l .after) ≡ ahead J sound free i = ap (ahead J sound free) (w .1) in
       let f : ahead J sound free (l .before) < ahead J sound free (l .after) = ahead-falls J sound free l (w .0) in
-      omega (arith, prior l (w .0) (w .1), fits J sound (l .before) b .duration-most)))
+      omega (
+        arith,
+        prior l (w .0) (w .1),
+        fits J sound (l .before) b .duration-most,
+        end-is J (desk J i) (raised J (l .before)) (duration J (l .before)),
+      )))
 
   pub raised-most : (i : ℕ) → i < pieceCount J → raised J i ≤ 654400
   raised-most i h = omega (arith, raised-high i h, ahead-few J sound free i, sound .few-pieces)

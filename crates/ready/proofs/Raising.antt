@@ -1,7 +1,6 @@
 -- Moments raised along the links, piece by piece in order: they stay below the raised ready moments, and a piece has its own
 -- once every piece before it had its turn.
 use Prim.Native.Nat.{ℕ, _+_, _-_, _≤_, _<_, max}
-use mathlib.Core.Bool.{false}
 use mathlib.Core.List.{List, List·Memᴰ as Mem}
 use mathlib.Core.Logic.{⊎-elim}
 use mathlib.Core.Option.{none}
@@ -28,6 +27,8 @@ use Rattle.demands.proofs.Finishes.{finish-most}
 use Rattle.links.specs.Chains.{Chained}
 use Rattle.links.specs.Links.{InOrder}
 use Rattle.links.proofs.ChainLaws.{OnChain, chain-start, on-most, on-link, on-falls, on-next, on-or-behind, on-last}
+use Rattle.laws.proofs.Delay.{delay-between}
+use Rattle.laws.proofs.Hours.{end-is, end-grows}
 use Rattle.method.specs.Hours.{deskEnd}
 use Rattle.ready.specs.Planned.{Planned, Tabled, Released, leaves, asks, Below, Risen, HoldsRaised}
 use Rattle.ready.proofs.FromTables.{job-count, job-desk, job-duration, link-mem, mem-link, links-few, raised-most}
@@ -55,31 +56,42 @@ module _ (J : Job) (sound : Sound J) (free : ringPiece J ≡ none) where
   -- What a link asks: of two pieces on one desk, and of two desks.
   asks-own : (table : List ℕ) (l : Link) → desk J (l .before) ≡ desk J (l .after)
       → asks J table l ≡ openEnd J (desk J (l .after)) (getD table (l .before) 0) (duration J (l .before))
-  unfolding asks leaves deskEnd openEnd
-  asks-own table l e = when-true _ _ _ (eq-eqb _ _ e)
+  unfolding asks leaves deskEnd
+  asks-own table l e =
+      when-true _ _ _ (eq-eqb _ _ e)
+      ∙ sym (end-is J (desk J (l .after)) (getD table (l .before) 0) (duration J (l .before)))
 
   asks-other : (table : List ℕ) (l : Link) → (desk J (l .before) ≡ desk J (l .after) → ⊥)
       → asks J table l ≡ finish J (l .before) + delay J l
-  unfolding asks leaves delay
+  unfolding asks leaves
   asks-other table l ne =
-      let d : eqb (desk J (l .before)) (desk J (l .after)) ≡ false = ne-eqb _ _ ne in
-      when-false _ _ _ d ∙ ap (λ (k : ℕ). finish J (l .before) + k) (sym (when-false _ 0 (l .handover) d))
+      when-false _ _ _ (ne-eqb _ _ ne) ∙ ap (λ (k : ℕ). finish J (l .before) + k) (sym (delay-between J l ne))
 
   -- It grows with the moment of the piece before, and is granted by the raised ready moments.
   asks-grow : (s t : List ℕ) (l : Link) → getD s (l .before) 0 ≤ getD t (l .before) 0 → asks J s l ≤ asks J t l
-  unfolding openEnd
   asks-grow s t l h =
       by-eq (desk J (l .before)) (desk J (l .after))
-      (λ e. omega (arith, asks-own s l e, asks-own t l e))
+      (λ e.
+      omega (
+        arith,
+        asks-own s l e,
+        asks-own t l e,
+        end-grows J (desk J (l .after)) (getD s (l .before) 0) (getD t (l .before) 0) (duration J (l .before)) h,
+      ))
       (λ e. omega (arith, asks-other s l e, asks-other t l e))
 
   asks-low : (t : List ℕ) (l : Link) → Mem l (J .links) → getD t (l .before) 0 ≤ raised J (l .before)
       → asks J t l ≤ raised J (l .after)
-  unfolding openEnd
   asks-low t l m h =
       let into : Mem l (linksInto J (l .after)) = link-into J (l .after) l m refl in
       by-eq (desk J (l .before)) (desk J (l .after))
-      (λ e. omega (arith, asks-own t l e, raised-after J sound free (l .after) l (link-own J (l .after) l into e)))
+      (λ e.
+      omega (
+        arith,
+        asks-own t l e,
+        end-grows J (desk J (l .after)) (getD t (l .before) 0) (raised J (l .before)) (duration J (l .before)) h,
+        raised-after J sound free (l .after) l (link-own J (l .after) l into e),
+      ))
       (λ e.
       omega (
         arith,
@@ -95,7 +107,6 @@ module _ (J : Job) (sound : Sound J) (free : ringPiece J ≡ none) where
       → ((l : Link) → Mem l (J .links) → l .after ≡ i → desk J (l .before) ≡ desk J i
       → raised J (l .before) ≤ getD t (l .before) 0)
       → raised J i ≤ c
-  unfolding openEnd
   enough t i c h rel all own =
       raised-least J sound free i c
       (ready-least J i c rel
@@ -106,12 +117,10 @@ module _ (J : Job) (sound : Sound J) (free : ringPiece J ≡ none) where
       (λ l m.
       let o = own-link J i l m in
       let w = into-link J i l (o .0) in
-      omega (
-        arith,
-        all l (w .0) (w .1),
-        asks-own t l (o .1 ∙ ap (desk J) (sym (w .1))),
-        own l (w .0) (w .1) (o .1),
-      ))
+      let same : desk J i ≡ desk J (l .after) = ap (desk J) (sym (w .1)) in
+      let grows = end-grows J (desk J (l .after)) (raised J (l .before)) (getD t (l .before) 0) (duration J (l .before))
+      (own l (w .0) (w .1) (o .1)) in
+      rw same (omega (arith, all l (w .0) (w .1), asks-own t l (o .1 ∙ same), grows)))
 
 -- A walk along the links of piece i.
 module _ (J : Job) (desks durations afters handovers lasts priors finishes : List ℕ)

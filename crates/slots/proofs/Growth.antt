@@ -2,7 +2,7 @@
 -- its choice they grow by one step.
 use Prim.Native.Nat.{ℕ, zero, suc, _+_, _<_}
 use mathlib.Core.Bool.{true, false}
-use mathlib.Core.List.{List, [], _∷_, _++_, map, append-assoc, append-nil}
+use mathlib.Core.List.{List, _∷_, _++_, map, append-assoc, append-nil, []}
 use mathlib.Core.Option.{Option, none, some}
 use mathlib.Core.Path.{_≡_, refl, sym, ap, _∙_}
 use native.Mathlib.Omega.{arith}
@@ -15,7 +15,7 @@ use Rattle.rules.specs.Runs.{Turn, Run, newRun, longerRun, closing, goesOn, nex
 use Rattle.laws.proofs.Words.{by-test, and-true}
 use Rattle.laws.proofs.Slots.{by-choice}
 use Rattle.slots.specs.Growth.{goesOnAt, freshRun, longer, grown, afterTurn, runsUntil}
-use Rattle.slots.proofs.Seams.{all-open}
+use Rattle.laws.proofs.Hours.{all-open}
 
 -- Only the last run of a list can grow.
 pub grown-last : (A : List Run) (r : Run) (i t k : ℕ) → grown (A ++ (r ∷ [])) i t k ≡ A ++ grown (r ∷ []) i t k

@@ -1,5 +1,4 @@
 -- Laws of stretches of slots, by topic.
-pub mod Seams
 pub mod Standing
 pub mod Stretch
 pub mod Growth

@@ -2,7 +2,7 @@
 -- and is ready no sooner than they ask.
 use Prim.Native.Nat.{ℕ, zero, suc, _+_, _-_, _≤_, _<_, max}
 use mathlib.Core.Bool.{_&&_}
-use mathlib.Core.List.{List, [], _∷_, _++_, map, map-append}
+use mathlib.Core.List.{List, _∷_, _++_, map, map-append, []}
 use mathlib.Core.Path.{_≡_, refl, sym, ap, _∙_}
 use native.Mathlib.Omega.{arith}
 use borrow.Author.Tests.{eqb-true, eqb-false}
@@ -18,7 +18,7 @@ use Rattle.laws.proofs.Sound.{link-fit}
 use Rattle.laws.proofs.Words.{by-test, mem-map, below-mem}
 use Rattle.slots.specs.Standing.{linksTo, askedBy}
 use Rattle.slots.specs.Stretch.{at}
-use Rattle.slots.proofs.Seams.{delay-is}
+use Rattle.laws.proofs.Delay.{delay-is}
 use Rattle.steps.specs.Handover.{Ties, Waiting, delayOf, passed, passFrom}
 use Rattle.steps.proofs.Tables.{below-more}
 

@@ -8,9 +8,8 @@ use lib.Dec.{ltb}
 use lib.IntN.{ℤ, pos, negsuc}
 use Rattle.rules.specs.Job.{Job}
 use Rattle.rules.specs.Moments.{latest, sooner}
-use Rattle.laws.proofs.Order.{smaller-sooner}
+use Rattle.laws.proofs.Order.{smaller-sooner, lower-sooner}
 use Rattle.laws.proofs.Signed.{up, dn}
-use Rattle.slots.proofs.Seams.{lower-sooner}
 use Rattle.laws.proofs.Words.{by-test}
 use Rattle.steps.specs.Keys.{keyOf, noKey}
 

@@ -5,7 +5,7 @@ use mathlib.Core.Path.{_≡_, refl, sym, ap, _∙_, subst}
 use mathlib.Core.Logic.{⊎-elim}
 use mathlib.Core.Bool.{Bool, true, false, _&&_}
 use mathlib.Core.Option.{Option, none, some}
-use mathlib.Core.List.{List, [], _∷_, _++_, append-nil, append-assoc, List·Memᴰ·append-cases}
+use mathlib.Core.List.{List, _∷_, _++_, append-nil, append-assoc, List·Memᴰ·append-cases, []}
 use mathlib.Core.List.{List·Memᴰ·eq-of-singleton, Memᴰ·append-left, Memᴰ·append-right}
 use mathlib.Core.List.{List·Memᴰ·head as here, List·Memᴰ·tail as there}
 use Prim.Native.Nat.{ℕ, zero, suc, _+_, _≤_, _<_}
@@ -28,7 +28,8 @@ use Rattle.theory.proofs.Rule.{rest}
 use Rattle.theory.proofs.Obeyed.{obeys-members, obeys-ext, obeys-layers, obeys-unique}
 use Rattle.theory.proofs.Locality.{beside}
 use Rattle.theory.proofs.Gathered.{chained-one, chained-more}
-use Rattle.theory.proofs.EntryOrder.{number, urgent, entry-urgency}
+use Rattle.laws.proofs.Order.{number, urgent}
+use Rattle.theory.proofs.EntryOrder.{entry-urgency}
 use Rattle.theory.proofs.SetAside.{LinksAhead, others-shorter, mem-others, others-distinct}
 use Rattle.theory.proofs.OneBlock.{readyAt, lasting, ObeysFor, Sound, block-obeys, block-over}
 

@@ -22,7 +22,7 @@ use Rattle.theory.proofs.Rule.{Obeys}
 use Rattle.theory.proofs.Obeyed.{layer-obeys, obeys-members, obeys-ext, obeys-fresh}
 use Rattle.theory.proofs.Locality.{orElse-some, orElse-none}
 use Rattle.theory.proofs.Gathered.{Chained, block-busy}
-use Rattle.theory.proofs.EntryOrder.{number, urgent}
+use Rattle.laws.proofs.Order.{number, urgent}
 use Rattle.theory.proofs.SetAside.{LinksAhead, Last, set-aside, others-mem, mem-others, others-distinct}
 
 abbrev pub readyAt : Entry → ℕ

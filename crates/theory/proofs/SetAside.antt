@@ -4,7 +4,7 @@
 use mathlib.Core.Path.{_≡_, refl, sym, ap, _∙_}
 use mathlib.Core.Bool.{Bool, true, false, not}
 use mathlib.Core.Option.{some}
-use mathlib.Core.List.{List, [], _∷_}
+use mathlib.Core.List.{List, _∷_, []}
 use mathlib.Core.List.{List·Memᴰ·head as here, List·Memᴰ·tail as there}
 use Prim.Native.Nat.{ℕ, _<_}
 use native.Mathlib.Omega.{arith}
@@ -17,7 +17,8 @@ use Rattle.rules.specs.Blocks.{Block, costsLess, cheaper, cheapest, withoutFoll
 use Rattle.laws.proofs.Words.{by-test, when-true, when-false, keep-mem, mem-keep, keep-length, oneOf-found}
 use Rattle.theory.proofs.Cases.{by-eq}
 use Rattle.theory.proofs.Lists.{_∈_, by-mem, Distinct, same-number}
-use Rattle.theory.proofs.EntryOrder.{number, urgent, entry-urgency}
+use Rattle.laws.proofs.Order.{number, urgent}
+use Rattle.theory.proofs.EntryOrder.{entry-urgency}
 
 -- a piece is sooner than each that follows it by a direct link
 abbrev pub LinksAhead : (ℕ → ℕ → Bool) → List Entry → Type 0
