@@ -2,7 +2,7 @@
 // each, with what was tried and how it was answered. What they must print stands in `stdout`, written by hand from the page.
 use deskplan_text::write_listing;
 use libc::STDOUT_FILENO;
-use planner::plan::plan;
+use planner::plan;
 use records::put::put_record;
 use rules::BlockAnswer;
 use rules::PlanAnswer;

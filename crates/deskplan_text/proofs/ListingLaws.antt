@@ -23,9 +23,9 @@ use Rattle.steps.specs.Log.{loggedRuns}
 use Rattle.demands.proofs.Answers.{first-bytes-listing}
 use Rattle.demands.proofs.Runs.{run-records}
 use Rattle.output.specs.Late.{latenessIn}
-use Rattle.planner.specs.Finished.{Finished}
-use Rattle.planner.proofs.PlanLaws.{count-here, end-here, worst-here, stored-front}
-use Rattle.planner.proofs.WriteLaws.{few-pieces}
+use Rattle.finished.specs.Finished.{Finished}
+use Rattle.records.proofs.Front.{stored-front}
+use Rattle.finished.proofs.FinishedLaws.{few-pieces, count-here, end-here, worst-here}
 use Rattle.texts.specs.Puts.{Puts}
 use Rattle.lines.specs.Lines.{pieceText, runText, totalText, refusedText, pieceLineIn, pieceLinesIn, deskLinesIn, runLinesIn}
 use Rattle.lines.proofs.LineLaws.{run-most, total-most, refused-most}

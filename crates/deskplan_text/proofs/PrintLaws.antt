@@ -7,8 +7,8 @@ use lib.IntN.{ℤ}
 use lib.ListN.{length}
 use Rattle.rules.specs.Job.{Job, accepted}
 use Rattle.rules.specs.Judgement.{fileOutcome}
-use Rattle.planner.specs.Finished.{Finished}
-use Rattle.planner.proofs.WriteLaws.{few-pieces, log-fits, bounded-here}
+use Rattle.finished.specs.Finished.{Finished}
+use Rattle.finished.proofs.FinishedLaws.{few-pieces, log-fits, bounded-here}
 use Rattle.texts.specs.Puts.{Puts}
 use Rattle.deskplan_text.specs.Promise.{enough, ListingPromise, pagesIn, ToPrint}
 use Rattle.deskplan_text.proofs.ListingLaws.{runs-most, pages-most, listing-is, listed-front}

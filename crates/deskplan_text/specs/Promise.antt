@@ -13,7 +13,6 @@ use Rattle.rules.specs.Plan.{atFront}
 use Rattle.output.specs.Late.{Bounded, latenessIn}
 use Rattle.output.specs.Written.{LogFits}
 use Rattle.lines.specs.Lines.{pieceLinesIn, runLinesIn, totalText}
-use Rattle.planner.specs.Judged.{Planable}
 
 -- Room for every listing.
 abbrev pub enough : ℕ
@@ -46,9 +45,3 @@ pub record ToPrint (n count : ℕ) (desks finishes : List ℕ) (latests : List �
   pub log : LogFits count pieces
   pub bounded : (i : ℕ) → i < n → Bounded (getD finishes i 0) (getD latests i (pos 0))
   pub room : 211 * n + length (runLinesIn 32 count desks pieces froms untils) + 141 ≤ length text
-
--- A job that some file was accepted for, and room for its listing.
-pub record ToList (n m : ℕ) (desks durations releases dues befores afters handovers lasts priors order text : List ℕ)
-    : Type 0 where
-  pub planable : Planable n m desks durations releases dues befores afters handovers lasts priors order
-  pub room : enough ≤ length text

@@ -36,7 +36,7 @@ fn signed(x: i32) -> i64
 pub extern "C" fn desk_plan(file: &[u8], buffer: &mut [u8], answer: &mut [i64; 6])
     ensures { λ _. ⌜ PlanCall (now (file .entry)) (now (buffer .entry)) (now (buffer .exit)) (now (answer .exit)) ⌝ }
 {
-    let a = planner::plan::plan(file, buffer);
+    let a = planner::plan(file, buffer);
     *answer = [
         small(a.number),
         place(a.place),

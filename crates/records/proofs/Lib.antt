@@ -3,3 +3,4 @@ pub mod FirstFrom
 pub mod StretchLaws
 pub mod Stores
 pub mod TwosComplement
+pub mod Front

@@ -2,12 +2,12 @@
 // blocks and runs.
 use blocks::planned::planned_sheet;
 use blocks::sheet::Sheet;
-use planner::finished::finish_plan;
+use planning::finishing::finish_plan;
 ghost use Rattle.rules.specs.Tables.{jobIn};
 ghost use Rattle.method.specs.Board.{Tables};
 ghost use Rattle.blocks.specs.Rows.{RowTables};
 ghost use Rattle.blocks.specs.Sheet.{SheetOf};
-ghost use Rattle.planner.specs.Judged.{Planable};
+ghost use Rattle.planning.specs.Judged.{Planable};
 
 // The log of the plan is needed no longer when the block method begins, so its tables take the runs of that.
 pub fn fill_sheet(

@@ -1,4 +1,3 @@
-// The block sheet of one desk: the public call, and its records of blocks and of runs in the lent buffer.
+// The block sheet of one desk: the public call.
 pub mod fill;
-pub mod rows;
 pub mod sheet;

@@ -1,38 +1,24 @@
 // The block sheet of one desk of a job file: records of blocks and of runs in the lent buffer. Everything is judged before
 // the first byte is written.
 use crate::fill::fill_sheet;
-use crate::rows::put_blocks;
-use crate::rows::put_runs;
-use planner::judged::judge_file;
+use planning::judged::judge_file;
 use reader::Read;
 use rules::BlockAnswer;
 use rules::Refusal;
+use sheet_answer::answer_sheet;
+use sheet_answer::refused;
+use sheet_answer::sheet_fault;
 ghost use mathlib.Core.List.{List};
 ghost use mathlib.Core.Path.{_≡_};
-ghost use Prim.Native.Nat.{ℕ, _≤_};
-ghost use lib.ListN.{length};
+ghost use Prim.Native.Nat.{ℕ};
 ghost use Rattle.rules.specs.Job.{accepted};
 ghost use Rattle.rules.specs.Judgement.{fileOutcome};
 ghost use Rattle.rules.specs.Tables.{jobIn};
 ghost use Rattle.demands.specs.Promises.{BlockPromise};
-ghost use Rattle.planner.specs.Judged.{Planable, ToPlan};
-ghost use Rattle.sheets.specs.Refused.{refusedSheet};
+ghost use Rattle.planning.specs.Judged.{Planable};
 
-// A refused call: its number and place, every other number of the answer zero.
-fn refused(refusal: Refusal) -> BlockAnswer
-    ensures { λ r. ⌜ r ≡ refusedSheet refusal ⌝ }
-{
-    BlockAnswer {
-        number: refusal.number,
-        place: refusal.place,
-        blocks: 0,
-        runs: 0,
-        worst: 0,
-    }
-}
-
-// The accepted job in its tables, with room for its records: writes the sheet and answers.
-fn write_sheet(
+// An accepted job: 13 where there is no such desk, then 12 where the lent buffer is too short, and else the sheet.
+fn sheet_accepted(
     n: usize,
     m: usize,
     desk: u8,
@@ -48,13 +34,19 @@ fn write_sheet(
     order: &[u16; 256],
     buffer: &mut [u8],
 ) -> BlockAnswer
-    requires { ⌜ ToPlan n m (now desks) (now durations) (now releases) (now dues) (now befores) (now afters)
-        (now handovers) (now lasts) (now priors) (now order) (length (now buffer)) ⌝ }
-    requires { ⌜ desk ≤ 31 ⌝ }
+    requires { ⌜ Planable n m (now desks) (now durations) (now releases) (now dues) (now befores) (now afters)
+        (now handovers) (now lasts) (now priors) (now order) ⌝ }
     ensures { λ r. ⌜ ((file : List ℕ) → fileOutcome file ≡ accepted (jobIn n m (now (desks .entry))
         (now (durations .entry)) (now (releases .entry)) (now (dues .entry)) (now (befores .entry)) (now (afters .entry))
         (now (handovers .entry))) → BlockPromise file desk (now (buffer .entry)) r (now (buffer .exit))) ⌝ }
 {
+    let fault = sheet_fault(desk, n, buffer.len());
+    if fault != 0 {
+        return refused(Refusal {
+            number: fault,
+            place: 0,
+        });
+    }
     let mut counts = [0u16; 256];
     let mut starts = [0u32; 256];
     let mut ends = [0u32; 256];
@@ -82,68 +74,17 @@ fn write_sheet(
         &mut froms,
         &mut untils,
     );
-    let rows = sheet.blocks;
-    let runs = sheet.runs;
-    put_blocks(desk, rows, &counts, &starts, &ends, buffer);
-    put_runs(desk, runs, &pieces, &froms, &untils, 16 * rows, buffer);
-    BlockAnswer {
-        number: 0,
-        place: 0,
-        blocks: rows as u32,
-        runs: runs as u32,
-        worst: sheet.worst,
-    }
-}
-
-// An accepted job: 13 where there is no such desk, then 12 where the lent buffer is too short, and else the sheet.
-fn sheet_accepted(
-    n: usize,
-    m: usize,
-    desk: u8,
-    desks: &[u8; 256],
-    durations: &[u16; 256],
-    releases: &[u32; 256],
-    dues: &[u32; 256],
-    befores: &[u16; 1024],
-    afters: &[u16; 1024],
-    handovers: &[u16; 1024],
-    lasts: &[u16; 256],
-    priors: &[u16; 1024],
-    order: &[u16; 256],
-    buffer: &mut [u8],
-) -> BlockAnswer
-    requires { ⌜ Planable n m (now desks) (now durations) (now releases) (now dues) (now befores) (now afters)
-        (now handovers) (now lasts) (now priors) (now order) ⌝ }
-    ensures { λ r. ⌜ ((file : List ℕ) → fileOutcome file ≡ accepted (jobIn n m (now (desks .entry))
-        (now (durations .entry)) (now (releases .entry)) (now (dues .entry)) (now (befores .entry)) (now (afters .entry))
-        (now (handovers .entry))) → BlockPromise file desk (now (buffer .entry)) r (now (buffer .exit))) ⌝ }
-{
-    if 31 < desk {
-        return refused(Refusal {
-            number: 13,
-            place: 0,
-        });
-    }
-    if buffer.len() < 48 * n {
-        return refused(Refusal {
-            number: 12,
-            place: 0,
-        });
-    }
-    write_sheet(
-        n,
-        m,
+    answer_sheet(
         desk,
-        desks,
-        durations,
-        releases,
-        dues,
-        befores,
-        afters,
-        handovers,
-        lasts,
-        priors,
-        order,
+        sheet.blocks,
+        sheet.runs,
+        sheet.worst,
+        &counts,
+        &starts,
+        &ends,
+        &pieces,
+        &froms,
+        &untils,
         buffer,
     )
 }

@@ -4,8 +4,9 @@
 use Prim.Native.Nat.{ℕ, zero, suc, _+_, _-_}
 use mathlib.Core.Bool.{Bool, _&&_}
 use mathlib.Core.List.{List, map}
+use mathlib.Core.Path.{_≡_}
 use lib.Dec.{ltb, eqb}
-use lib.ListN.{getD, set}
+use lib.ListN.{length, getD, set}
 use Rattle.rules.specs.Words.{when, keep, below}
 use Rattle.rules.specs.Runs.{Run}
 
@@ -58,3 +59,11 @@ runAt piece from until k = record {
 unfoldable pub loggedRuns : List ℕ → List ℕ → List ℕ → List ℕ → ℕ → ℕ → List Run
 loggedRuns desks piece from until runs d =
     map (runAt piece from until) (keep (λ k. eqb (getD desks (getD piece k 0) 0) d) (below runs))
+
+-- The tables that a plan fills have the places that their types say: start and finish of each piece, and the log.
+pub record Sized (starts finishes pieces froms untils : List ℕ) : Type 0 where
+  pub starts-sized : length starts ≡ 256
+  pub finishes-sized : length finishes ≡ 256
+  pub pieces-sized : length pieces ≡ 512
+  pub froms-sized : length froms ≡ 512
+  pub untils-sized : length untils ≡ 512

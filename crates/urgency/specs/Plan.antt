@@ -13,7 +13,7 @@ use Rattle.rules.specs.Runs.{runs}
 use Rattle.rules.specs.Tables.{Sound}
 use Rattle.rules.specs.Urgency.{start, finish}
 use Rattle.steps.specs.Keys.{keyOf}
-use Rattle.steps.specs.Log.{loggedRuns}
+use Rattle.steps.specs.Log.{Sized, loggedRuns}
 
 -- The job was read and judged, and its latest moments are known.
 pub record Given (J : Job) (n : ℕ) (latests : List ℤ) : Type 0 where
@@ -26,14 +26,6 @@ pub record Ranked (J : Job) (n : ℕ) (keys : List ℕ) : Type 0 where
   pub sound : Sound J
   pub free : ringPiece J ≡ none
   pub key-is : (i : ℕ) → i < n → getD keys i 0 ≡ keyOf (latest J i) i
-
--- The tables that are filled have the places that their types say.
-pub record Sized (starts finishes pieces froms untils : List ℕ) : Type 0 where
-  pub starts-sized : length starts ≡ 256
-  pub finishes-sized : length finishes ≡ 256
-  pub pieces-sized : length pieces ≡ 512
-  pub froms-sized : length froms ≡ 512
-  pub untils-sized : length untils ≡ 512
 
 -- The plan of the job: start and finish of every piece, and the log, whose first `count` places have the runs of
 -- every desk in the order in which they begin. A run's desk is that of its piece.

@@ -11,7 +11,8 @@ ghost use Prim.Native.Nat.{_≤_};
 ghost use lib.ListN.{length};
 ghost use Rattle.rules.specs.Tables.{jobIn};
 ghost use Rattle.links.specs.Chains.{Chained};
-ghost use Rattle.urgency.specs.Plan.{Given, Ranked, Sized, Planned, Begun};
+ghost use Rattle.steps.specs.Log.{Sized};
+ghost use Rattle.urgency.specs.Plan.{Given, Ranked, Planned, Begun};
 
 // Fills the tables of the pieces as they are before the first slot.
 fn begin(

@@ -1,7 +1,7 @@
 -- `block_sheet` meets its promise: a refused file is answered as refused, an accepted one gets its sheet.
-use Rattle.planner.proofs.JudgedLaws.{unwalked}
-use Rattle.planner.proofs.WriteLaws.{accepted-here, planable-here, refused-here}
-use Rattle.sheets.proofs.Promised.{sheet-refused}
+use Rattle.planning.proofs.JudgedLaws.{unwalked}
+use Rattle.planning.proofs.FinishingLaws.{accepted-here, planable-here, refused-here}
+use Rattle.sheet_answer.proofs.Promised.{sheet-refused}
 use borrow.Author.Needs.{needs}
 use Rattle.sheets.proofs.sheet.block_sheet.Statement.{statement}
 use Rattle.sheets.proofs.sheet.block_sheet.Tie as tie

@@ -1,0 +1,2 @@
+-- What follows from a finished plan in its tables.
+pub mod FinishedLaws

@@ -1,0 +1,2 @@
+-- A finished plan in its tables.
+pub mod Finished

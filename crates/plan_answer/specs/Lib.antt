@@ -1,0 +1,2 @@
+-- What the contracts of this crate cite besides the rules and the promises.
+pub mod Refused
