@@ -3,13 +3,13 @@
 //!
 //! Why it is sound: the library's functions are proved for every input to end, to read nothing but the
 //! slices and to write nothing but the lent buffer and the answer. A slice's pointer holds for its length;
-//! that of an empty slice dangles, but it is aligned and not null, which is all that a length of 0 asks. The
+//! that of an empty slice dangles, and a length of 0 asks nothing of its pointer, which may even be null. The
 //! borrow checker sees to it that a lent buffer overlaps no file, and the answers are this module's own. The
 //! library keeps no state and no pointer, so calls from several threads do not meet.
 
 #![allow(unsafe_code)]
 
-extern "C" {
+unsafe extern "C" {
     fn desk_plan(file: *const u8, length: usize, buffer: *mut u8, room: usize, answer: *mut i64);
     fn desk_blocks(
         file: *const u8,
@@ -27,7 +27,7 @@ extern "C" {
         link_numbers: usize,
         buffer: *mut u8,
         room: usize,
-        answer: *mut u64,
+        answer: *mut i64,
     );
     fn desk_listing(file: *const u8, length: usize, text: *mut u8, room: usize, written: *mut u64);
 }
@@ -84,7 +84,7 @@ pub fn listing(file: &[u8], text: &mut [u8; crate::LISTING_ROOM]) -> u64 {
 }
 
 /// Number, place and bytes of the file.
-pub fn write(pieces: &[u32], links: &[u32], buffer: &mut [u8]) -> [u64; 3] {
+pub fn write(pieces: &[u32], links: &[u32], buffer: &mut [u8]) -> [i64; 3] {
     let mut answer = [0; 3];
     // Sound for the reasons at the head; the answer has the three numbers that the call writes.
     unsafe {
