@@ -3,7 +3,7 @@
 use crate::{Refusal, raw};
 
 /// Makes a job file of typed pieces and links, in their order. A piece is a row of desk, duration, release and due, a
-/// link a row of the piece before, the piece after and the handover. The file stands at the front of the buffer, and the
+/// link a row of the piece before, the piece after and the handover. The file stands at the front of the buffer; the
 /// bytes after it stay. Each number is judged as the plan would judge it in the file; a number too large for its field
 /// is refused, never cut. Rings are left to [`plan`](crate::plan).
 ///
