@@ -31,17 +31,22 @@ fn main() -> ExitCode {
         Ok(asked) => answer(&asked).and_then(|output| print(&output)),
         Err(Wrong::Value(why)) => Err(why),
         Err(Wrong::Call) => {
-            eprint!("{USAGE}");
+            tell(USAGE);
             return ExitCode::from(2);
         }
     };
     match done {
         Ok(()) => ExitCode::SUCCESS,
         Err(why) => {
-            eprintln!("desk: {why}");
+            tell(&format!("desk: {why}\n"));
             ExitCode::FAILURE
         }
     }
+}
+
+/// On standard error. Where nobody reads it, there is nobody to be told of that.
+fn tell(words: &str) {
+    let _ = io::stderr().write_all(words.as_bytes());
 }
 
 /// A reader that has seen enough and closes the pipe is no failure.
@@ -73,7 +78,7 @@ fn answer(asked: &Asked) -> Result<Vec<u8>, String> {
 fn made(text: &str) -> Result<Vec<u8>, String> {
     let made = make::made(text).map_err(|mistake| mistake.to_string())?;
     if let Some(warning) = judge::warning(&made) {
-        eprintln!("desk: warning: {warning}");
+        tell(&format!("desk: warning: {warning}\n"));
     }
     Ok(made.file)
 }

@@ -1,5 +1,5 @@
 //! The proved calls of the desk planner as safe functions: [`plan`] for every desk of a job file, the block sheet of
-//! one desk ([`blocks`]), the [`runs`] of one desk, the [`listing`], and a job file of typed rows ([`write`]). Every
+//! one desk ([`blocks`]), the [`runs`] of one desk, the [`listing`], and a job file of typed rows ([`write()`]). Every
 //! file, form, desk number and buffer may be given: nothing has to be checked first and nothing panics. What a call
 //! has against its file is an [`Err`] with a [`Refusal`], so that none passes unseen.
 //!
@@ -25,7 +25,6 @@
 #![deny(missing_docs)]
 
 mod blocks;
-mod library;
 mod listing;
 mod plan;
 pub mod raw;
@@ -67,7 +66,7 @@ pub const ROOM_FOR_A_PIECE: usize = 48;
 /// ```
 pub const ROOM: usize = 256 * ROOM_FOR_A_PIECE;
 
-/// Bytes of the longest file that [`write`] makes: 256 pieces and 1,024 links.
+/// Bytes of the longest file that [`write()`] makes: 256 pieces and 1,024 links.
 ///
 /// ```
 /// let (pieces, links) = ([[0, 1, 0, 0]; 256], [[0, 1, 0]; 1024]);

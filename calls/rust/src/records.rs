@@ -176,6 +176,8 @@ impl<T: Record> Iterator for Records<'_, T> {
     }
 }
 
+impl<T: Record> std::iter::FusedIterator for Records<'_, T> {}
+
 /// The first so many records of a buffer and the so many after them, as far as it goes.
 pub(crate) fn two_parts(buffer: &[u8], first: i64, second: i64) -> (&[u8], &[u8]) {
     let bytes = |records: i64| usize::try_from(records).unwrap_or(0).saturating_mul(RECORD);

@@ -172,3 +172,15 @@ fn a_closed_pipe_is_no_failure() {
     let told = String::from_utf8(output.stderr).unwrap();
     assert_eq!((output.status.code(), told.as_str()), (Some(0), ""));
 }
+
+/// Where nobody reads the complaints, the exit status still tells of them.
+#[test]
+fn complaints_that_nobody_reads() {
+    let mut command = Command::new(env!("CARGO_BIN_EXE_desk"));
+    let streams =
+        command.arg("make").stdin(Stdio::piped()).stdout(Stdio::null()).stderr(Stdio::piped());
+    let mut child = streams.spawn().unwrap();
+    drop(child.stderr.take());
+    child.stdin.take().unwrap().write_all(b"piece").unwrap();
+    assert_eq!(child.wait().unwrap().code(), Some(1));
+}
