@@ -23,10 +23,8 @@ fn main() {
 
 /// A folder named from where cargo was called. A build script runs in the folder of its own package, but cargo, which
 /// called it, and the shell that called cargo, stand where the person stood who typed the name; the folder of the
-/// process above tells it. Where that cannot be read, or has no such folder, the name counts from this package.
+/// process above tells it. Where it cannot be read the name counts from this package.
 fn from_the_caller(named: &Path) -> PathBuf {
-    let here = std::env::current_dir().unwrap_or_default();
     let above = std::fs::read_link(format!("/proc/{}/cwd", std::os::unix::process::parent_id()));
-    let there = above.map(|above| above.join(named)).ok();
-    there.filter(|folder| folder.is_dir()).unwrap_or_else(|| here.join(named))
+    above.or_else(|_| std::env::current_dir()).unwrap_or_default().join(named)
 }

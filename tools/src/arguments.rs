@@ -29,7 +29,7 @@ pub enum Wrong {
     Value(String),
 }
 
-/// Reads the words behind the program's name.
+/// Reads the words after the name of the program.
 pub fn asked(words: &[&str]) -> Result<Asked, Wrong> {
     let (command, mut rest) = words.split_first().ok_or(Wrong::Call)?;
     let command = match *command {

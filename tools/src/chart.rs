@@ -1,7 +1,7 @@
 //! Draws a plan in the terminal, one row for each desk and time from left to right. Plain letters
 //! and marks do all of it, so that it reads the same on paper and without colour.
 
-use crate::listing::{Piece, Plan, Run};
+use crate::plan::{Piece, Plan, Run};
 use crate::scale::Scale;
 use crate::time::{hour, marks};
 use crate::words::{lateness, title, verdict, wrapped, NO_PIECES};

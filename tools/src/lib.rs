@@ -12,6 +12,7 @@ pub mod judge;
 pub mod listing;
 pub mod make;
 pub mod mistake;
+pub mod plan;
 pub mod quote;
 pub mod ring;
 pub mod scale;

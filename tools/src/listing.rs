@@ -3,35 +3,9 @@
 //! told with its line.
 
 use crate::mistake::Mistake;
+use crate::plan::{Piece, Plan, Run};
 use crate::quote::quoted;
 use crate::text::is_number;
-use std::collections::BTreeSet;
-
-#[derive(Clone, Copy, Debug, PartialEq, Eq)]
-pub struct Piece {
-    pub desk: i64,
-    pub start: i64,
-    pub finish: i64,
-    pub latest: i64,
-    pub late: i64,
-}
-
-#[derive(Clone, Copy, Debug, PartialEq, Eq)]
-pub struct Run {
-    pub desk: i64,
-    pub piece: usize,
-    pub from: i64,
-    pub until: i64,
-}
-
-/// The pieces by number and the runs as listed.
-#[derive(Clone, Debug, Default, PartialEq, Eq)]
-pub struct Plan {
-    pub pieces: Vec<Piece>,
-    pub runs: Vec<Run>,
-    pub end: i64,
-    pub worst: i64,
-}
 
 #[derive(Clone, Debug, PartialEq, Eq)]
 pub enum Listing {
@@ -43,18 +17,6 @@ pub enum Listing {
 const FURTHEST: u64 = 4_294_967_295;
 const MOST_PIECES: usize = 256;
 const LAST_DESK: i64 = 31;
-
-impl Plan {
-    /// The desks that have pieces, in order.
-    pub fn desks(&self) -> Vec<i64> {
-        let desks: BTreeSet<i64> = self.pieces.iter().map(|piece| piece.desk).collect();
-        desks.into_iter().collect()
-    }
-
-    pub fn late(&self, piece: usize) -> bool {
-        self.pieces[piece].late > 0
-    }
-}
 
 /// Reads a whole listing. It ends with its total line, so that one cut short is noticed.
 pub fn read(text: &str) -> Result<Listing, Mistake> {

@@ -2,7 +2,8 @@
 //! standard output; mistakes and warnings go to standard error.
 
 use desktools::arguments::{asked, Asked, Command, Wrong};
-use desktools::listing::{self, Listing, Plan};
+use desktools::listing::{self, Listing};
+use desktools::plan::Plan;
 use desktools::{chart, input, judge, make, show, svg, terminal, words};
 use std::io::{self, ErrorKind, Write};
 use std::process::ExitCode;

@@ -1,7 +1,7 @@
 //! What a plan or a refusal says in words. The chart in the terminal and the one for the browser
 //! share these sentences.
 
-use crate::listing::Plan;
+use crate::plan::Plan;
 use crate::time::length;
 
 pub const NO_PIECES: &str = "The plan has no pieces.";

@@ -32,7 +32,7 @@ pub fn ruler(chart: &str) -> usize {
 }
 
 /// The plan of a listing that is none of a refused file.
-pub fn planned(text: &str) -> desktools::listing::Plan {
+pub fn planned(text: &str) -> desktools::plan::Plan {
     match desktools::listing::read(text) {
         Ok(desktools::listing::Listing::Planned(plan)) => plan,
         other => panic!("{other:?}"),
