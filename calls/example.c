@@ -48,20 +48,24 @@ static void print_records(const uint8_t *records, size_t length) {
 }
 
 static void print_file(const uint8_t *file, size_t length) {
+    printf("file: %zu bytes\n", length);
     for (size_t at = 0; at < length; at++) printf("%02x%c", file[at], at % DESK_RECORD == 15 ? '\n' : ' ');
 }
 
-int main(void) {
-    static uint8_t p1[4 * DESK_RECORD], buffer[DESK_ROOM];
-    static const uint8_t zeros[17] = {0};
-    int64_t plan[DESK_PLAN_ANSWER], sheet[DESK_SHEET_ANSWER];
-    uint64_t stretch[2], file[DESK_WRITE_ANSWER];
+/* Number and place stand first in every answer. Gives whether the call was refused. */
+static int refused(const char *what, const int64_t *answer) {
+    if (answer[DESK_NUMBER] == DESK_ACCEPTED) return 0;
+    printf("%s: refused %" PRId64 " at %" PRId64 "\n", what, answer[DESK_NUMBER], answer[DESK_PLACE]);
+    return 1;
+}
 
-    desk_write(pieces, 3 * DESK_PIECE_ROW, links, 1 * DESK_LINK_ROW, p1, sizeof p1, file);
-    printf("file: %" PRIu64 " bytes\n", file[DESK_FILE_BYTES]);
-    print_file(p1, (size_t)file[DESK_FILE_BYTES]);
+static void show_plan(const uint8_t *file, size_t length) {
+    static uint8_t buffer[DESK_ROOM];
+    int64_t plan[DESK_PLAN_ANSWER];
+    uint64_t stretch[2];
 
-    desk_plan(p1, sizeof p1, buffer, sizeof buffer, plan);
+    desk_plan(file, length, buffer, sizeof buffer, plan);
+    if (refused("plan", plan)) return;
     size_t written = DESK_RECORD * (size_t)(plan[DESK_PIECES] + plan[DESK_RUNS]);
     printf("plan: %" PRId64 " pieces, %" PRId64 " runs, end %" PRId64 ", worst lateness %" PRId64 "\n",
            plan[DESK_PIECES], plan[DESK_RUNS], plan[DESK_END], plan[DESK_WORST]);
@@ -70,21 +74,37 @@ int main(void) {
     desk_runs(buffer, written, 1, stretch);
     printf("desk 1 has bytes %" PRIu64 " to %" PRIu64 " of the plan\n", stretch[0], stretch[1]);
     print_records(buffer + stretch[0], (size_t)(stretch[1] - stretch[0]));
+}
 
-    desk_blocks(p1, sizeof p1, 0, buffer, sizeof buffer, sheet);
+static void show_sheet(const uint8_t *file, size_t length) {
+    static uint8_t buffer[DESK_ROOM];
+    int64_t sheet[DESK_SHEET_ANSWER];
+
+    desk_blocks(file, length, 0, buffer, sizeof buffer, sheet);
+    if (refused("sheet", sheet)) return;
     printf("sheet of desk 0: %" PRId64 " blocks, %" PRId64 " runs, worst lateness %" PRId64 "\n",
            sheet[DESK_SHEET_BLOCKS], sheet[DESK_SHEET_RUNS], sheet[DESK_SHEET_WORST]);
     print_records(buffer, DESK_RECORD * (size_t)(sheet[DESK_SHEET_BLOCKS] + sheet[DESK_SHEET_RUNS]));
+}
+
+int main(void) {
+    static uint8_t p1[4 * DESK_RECORD], buffer[DESK_ROOM];
+    static const uint8_t zeros[17] = {0};
+    int64_t plan[DESK_PLAN_ANSWER], file[DESK_WRITE_ANSWER];
+
+    desk_write(pieces, 3 * DESK_PIECE_ROW, links, 1 * DESK_LINK_ROW, p1, sizeof p1, file);
+    if (refused("file", file)) return 1;
+    print_file(p1, (size_t)file[DESK_FILE_BYTES]);
+    show_plan(p1, sizeof p1);
+    show_sheet(p1, sizeof p1);
 
     desk_plan(zeros, sizeof zeros, buffer, sizeof buffer, plan);
-    printf("17 zero bytes: refused %" PRId64 " at %" PRId64 "\n", plan[DESK_NUMBER], plan[DESK_PLACE]);
+    refused("17 zero bytes", plan);
     desk_plan(p1, sizeof p1, buffer, 3 * DESK_ROOM_FOR_A_PIECE - 1, plan);
-    printf("a buffer one byte short: refused %" PRId64 " at %" PRId64 "\n", plan[DESK_NUMBER],
-           plan[DESK_PLACE]);
-    desk_write(on_desk_32, 2 * DESK_PIECE_ROW, links, 0, p1, sizeof p1, file);
-    printf("a form with desk 32: refused %" PRIu64 " at %" PRIu64 "\n", file[DESK_NUMBER], file[DESK_PLACE]);
-    desk_write(pieces, 3 * DESK_PIECE_ROW, links, 0, p1, 3 * DESK_RECORD - 1, file);
-    printf("a file one byte too long: refused %" PRIu64 " at %" PRIu64 "\n", file[DESK_NUMBER],
-           file[DESK_PLACE]);
+    refused("a buffer one byte short", plan);
+    desk_write(on_desk_32, 2 * DESK_PIECE_ROW, NULL, 0, buffer, sizeof buffer, file);
+    refused("a form with desk 32", file);
+    desk_write(pieces, 3 * DESK_PIECE_ROW, NULL, 0, buffer, 3 * DESK_RECORD - 1, file);
+    refused("a file one byte too long", file);
     return 0;
 }

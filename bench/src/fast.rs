@@ -10,7 +10,8 @@ mod rings;
 mod sheet;
 mod write;
 
-use desk::{BlockAnswer, PlanAnswer, Refusal, ROOM_FOR_A_PIECE};
+use desk::raw::{BlockAnswer, PlanAnswer, Refusal};
+use desk::ROOM_FOR_A_PIECE;
 use file::Job;
 use links::Links;
 use plan::Plan;

@@ -2,7 +2,7 @@
 
 use crate::fast;
 use crate::shapes::{self, Shape};
-use desk::ROOM;
+use desk::{raw, ROOM};
 use std::hint::black_box;
 
 #[derive(Clone, Copy, Debug, PartialEq, Eq)]
@@ -55,11 +55,11 @@ impl Task {
     pub fn run(&self, side: Side, buffer: &mut [u8; ROOM]) -> Answer {
         let input = black_box(&self.input[..]);
         match (self.call, side) {
-            (Call::Plan, Side::Proved) => of_plan(desk::plan(input, buffer)),
+            (Call::Plan, Side::Proved) => of_plan(raw::plan(input, buffer)),
             (Call::Plan, Side::Plain) => of_plan(fast::plan(input, buffer)),
-            (Call::Sheet(desk), Side::Proved) => of_sheet(desk::blocks(input, desk, buffer)),
+            (Call::Sheet(desk), Side::Proved) => of_sheet(raw::blocks(input, desk, buffer)),
             (Call::Sheet(desk), Side::Plain) => of_sheet(fast::blocks(input, desk, buffer)),
-            (Call::Runs(desk), Side::Proved) => of_runs(input, desk::runs(input, desk)),
+            (Call::Runs(desk), Side::Proved) => of_runs(input, raw::runs(input, desk)),
             (Call::Runs(desk), Side::Plain) => of_runs(input, fast::runs(input, desk)),
         }
     }
@@ -75,7 +75,7 @@ impl Task {
 pub fn tasks() -> Vec<Task> {
     let of_shape = |Shape { name, what, file, desk }: Shape| {
         let mut buffer = [0; ROOM];
-        let written = desk::plan(&file, &mut buffer).written();
+        let written = raw::plan(&file, &mut buffer).written();
         let task = |call, input: &[u8]| Task { shape: name, what, call, input: input.to_vec() };
         let of_desk = desk.map(|desk| {
             [task(Call::Sheet(desk), &file), task(Call::Runs(desk), &buffer[..written])]
@@ -85,13 +85,13 @@ pub fn tasks() -> Vec<Task> {
     shapes::all().into_iter().flat_map(of_shape).collect()
 }
 
-fn of_plan(answer: desk::PlanAnswer) -> Answer {
-    let desk::PlanAnswer { number, place, pieces, runs, end, worst } = answer;
+fn of_plan(answer: raw::PlanAnswer) -> Answer {
+    let raw::PlanAnswer { number, place, pieces, runs, end, worst } = answer;
     [number, place, pieces, runs, end, worst]
 }
 
-fn of_sheet(answer: desk::BlockAnswer) -> Answer {
-    let desk::BlockAnswer { number, place, blocks, runs, worst } = answer;
+fn of_sheet(answer: raw::BlockAnswer) -> Answer {
+    let raw::BlockAnswer { number, place, blocks, runs, worst } = answer;
     [number, place, blocks, runs, worst, 0]
 }
 

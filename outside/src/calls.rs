@@ -1,7 +1,8 @@
 //! The calls under test as values. The tests of this package put wrong calls in their place and see that the
 //! comparison finds them.
 
-use desk::{BlockAnswer, PlanAnswer, WriteAnswer, LISTING_ROOM};
+use desk::raw::{self, BlockAnswer, PlanAnswer, WriteAnswer};
+use desk::LISTING_ROOM;
 
 /// The room that a listing is written into.
 pub type Text = [u8; LISTING_ROOM];
@@ -23,9 +24,9 @@ pub struct Calls {
 
 /// The calls of the proved library.
 pub const PROVED: Calls = Calls {
-    plan: desk::plan,
-    blocks: desk::blocks,
-    runs: desk::runs,
-    listing: desk::listing,
-    write: desk::write,
+    plan: raw::plan,
+    blocks: raw::blocks,
+    runs: raw::runs,
+    listing: raw::listing,
+    write: raw::write,
 };

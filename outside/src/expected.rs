@@ -1,7 +1,7 @@
 //! What the second planner answers, with its slow plan worked out once for all calls on a file. The answers
 //! are put together here as the second planner's own calls do it; a test holds the two together.
 
-use desk::{BlockAnswer, PlanAnswer};
+use desk::raw::{BlockAnswer, PlanAnswer};
 use second::blocks::sheet;
 use second::job::{accept, LAST_DESK};
 use second::plan::{make, Plan};

@@ -4,7 +4,7 @@
 use crate::calls::Calls;
 use crate::difference::Difference;
 use crate::lent::Lent;
-use desk::WriteAnswer;
+use desk::raw::WriteAnswer;
 use second::make::Form;
 use second::write::typed;
 
@@ -17,7 +17,7 @@ pub fn check_form(calls: &Calls, form: &Form) -> Result<i64, Difference> {
         file.truncate(answer.written());
         read_back(calls, form, &file)?;
     }
-    Ok(answer.number as i64)
+    Ok(answer.number)
 }
 
 /// The rows that a file says, if the second program reads it, make the same file. Gives 1 for such a file.
@@ -28,7 +28,7 @@ pub fn check_file(calls: &Calls, file: &[u8]) -> Result<u64, Difference> {
     let (pieces, links) = typed(&job);
     let mut got = vec![0xA5; file.len()];
     let answer = (calls.write)(&pieces, &links, &mut got);
-    let expected = WriteAnswer { number: 0, place: 0, bytes: file.len() as u64 };
+    let expected = WriteAnswer { number: 0, place: 0, bytes: file.len() as i64 };
     Difference::check("writing what was read".into(), &expected, &answer)?;
     Difference::check_bytes("writing what was read", file, &got)?;
     Ok(1)
@@ -44,7 +44,7 @@ fn written(
     let call = format!("writing with a buffer of {} bytes", buffer.len());
     let (mut expected, mut got) = (buffer.to_vec(), Lent::new(buffer));
     let second::WriteAnswer { number, place, bytes } = second::write(pieces, links, &mut expected);
-    let answer = WriteAnswer { number: number as u64, place: place as u64, bytes: bytes as u64 };
+    let answer = WriteAnswer { number, place, bytes };
     let proved = (calls.write)(pieces, links, got.part_mut());
     Difference::check_bytes(&call, &expected, got.part())?;
     Difference::check(format!("{call}: bytes around it kept"), &true, &got.kept_around())?;

@@ -1,10 +1,10 @@
 //! Draws a plan in the terminal, one row for each desk and time from left to right. Plain letters
 //! and marks do all of it, so that it reads the same on paper and without colour.
 
-use crate::listing::{Piece, Plan, Run};
+use crate::plan::{Piece, Plan, Run};
 use crate::scale::Scale;
 use crate::time::{hour, marks};
-use crate::words::{lateness, title, verdict, NO_PIECES};
+use crate::words::{lateness, title, verdict, wrapped, NO_PIECES};
 
 /// Room for "desk 31 " before the columns.
 const LABEL: i64 = 8;
@@ -21,18 +21,23 @@ pub fn chart(plan: &Plan, width: i64) -> String {
     if plan.pieces.is_empty() {
         return format!("{NO_PIECES}\n");
     }
-    let scale = Scale::new(plan.end, width.clamp(LEAST_WIDTH, MOST_WIDTH) - LABEL);
+    let width = width.clamp(LEAST_WIDTH, MOST_WIDTH);
+    let scale = Scale::new(plan.end, width - LABEL);
     let symbols = symbols(plan);
-    let mut lines = vec![title(plan), verdict(plan), scale.words(), String::new()];
-    lines.extend(axis(plan.end, &scale));
-    for desk in plan.desks() {
-        lines.extend(rows(plan, desk, &scale, &symbols));
-    }
-    lines.push(String::new());
-    lines.extend(table(plan, &symbols));
-    lines.push(String::new());
-    lines.extend(key(plan, &lines));
-    lines.iter().map(|line| format!("{}\n", line.trim_end())).collect()
+    let desks = plan.desks().into_iter();
+    let rows: Vec<String> = desks.flat_map(|desk| rows(plan, desk, &scale, &symbols)).collect();
+    let wrapped = |sentences: Vec<String>| -> Vec<String> {
+        sentences.iter().flat_map(|sentence| wrapped(sentence, width as usize)).collect()
+    };
+    let parts = [
+        wrapped(vec![title(plan), verdict(plan), scale.words()]),
+        [axis(plan.end, &scale, width as usize), rows.clone()].concat(),
+        table(plan, &symbols, width as usize),
+        wrapped(key(plan, &rows)),
+    ];
+    parts
+        .map(|lines| lines.iter().map(|line| format!("{}\n", line.trim_end())).collect::<String>())
+        .join("\n")
 }
 
 /// A letter for each piece. Few pieces have letters of their own; many share them, but two pieces
@@ -49,21 +54,26 @@ fn symbols(plan: &Plan) -> Vec<char> {
         .collect()
 }
 
-/// Slots and hours above a ruler.
-fn axis(end: i64, scale: &Scale) -> [String; 3] {
+/// Slots and hours above a ruler. A label that would run over the edge is left out.
+fn axis(end: i64, scale: &Scale, width: usize) -> Vec<String> {
     let columns = scale.columns(end);
     let mut slots = "slot    ".to_string();
     let mut hours = "hour    ".to_string();
     let mut ruler = vec!['-'; columns as usize];
+    let put = |labels: &mut String, at: usize, label: String| {
+        if at + label.len() <= width {
+            *labels = format!("{labels:<at$}{label}");
+        }
+    };
     // Seven letters are the most a label takes, and one space parts it from the next.
     for mark in marks(end - 1, columns / 8) {
         let column = scale.column(mark) as usize;
         let at = LABEL as usize + column;
-        slots = format!("{slots:<at$}{mark}");
-        hours = format!("{hours:<at$}{}", hour(mark));
+        put(&mut slots, at, mark.to_string());
+        put(&mut hours, at, hour(mark));
         ruler[column] = '+';
     }
-    [slots, hours, format!("{:8}{}", "", String::from_iter(ruler))]
+    vec![slots, hours, format!("{:8}{}", "", String::from_iter(ruler))]
 }
 
 /// The row of a desk and, if it has late pieces, a row that marks where they are worked.
@@ -89,27 +99,27 @@ fn rows(plan: &Plan, desk: i64, scale: &Scale, symbols: &[char]) -> Vec<String> 
     }
 }
 
-/// All pieces with their letters and numbers.
-fn table(plan: &Plan, symbols: &[char]) -> Vec<String> {
+/// All pieces with their letters and numbers. Words that do not fit go to a line of their own.
+fn table(plan: &Plan, symbols: &[char], width: usize) -> Vec<String> {
     let mut lines = vec!["   piece  desk  start  finish   latest".to_string()];
     for (number, (piece, symbol)) in plan.pieces.iter().zip(symbols).enumerate() {
-        lines.push(format!(
-            "{symbol}{number:>7}{:>6}{:>7}{:>8}{:>9}  {}",
-            piece.desk,
-            piece.start,
-            piece.finish,
-            piece.latest,
-            lateness(piece.late),
-        ));
+        let numbers = format!(
+            "{symbol}{number:>7}{:>6}{:>7}{:>8}{:>9}",
+            piece.desk, piece.start, piece.finish, piece.latest,
+        );
+        let words = lateness(piece.late);
+        if numbers.len() + 2 + words.len() <= width {
+            lines.push(format!("{numbers}  {words}"));
+        } else {
+            lines.extend([numbers, format!("{:8}{words}", "")]);
+        }
     }
     lines
 }
 
 /// What the marks mean, as far as they are used.
-fn key(plan: &Plan, lines: &[String]) -> Vec<String> {
-    let drawn = |mark: char| {
-        lines.iter().any(|line| line.starts_with("desk ") && line[LABEL as usize..].contains(mark))
-    };
+fn key(plan: &Plan, rows: &[String]) -> Vec<String> {
+    let drawn = |mark: char| rows.iter().any(|row| row[LABEL as usize..].contains(mark));
     let mut key = vec!["A letter or digit is a piece as in the table.".to_string()];
     let of_desk = |desk: i64| plan.pieces.iter().filter(|piece| piece.desk == desk).count();
     if plan.desks().into_iter().any(|desk| of_desk(desk) > SYMBOLS.len()) {

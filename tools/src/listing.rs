@@ -1,34 +1,11 @@
 //! Reads the listing that `deskplan` prints. Every line is a word or two and then words with their
-//! numbers, so fields that are added later do no harm here.
+//! numbers, so fields that are added later do no harm here. A listing that contradicts itself is
+//! told with its line.
 
 use crate::mistake::Mistake;
-use std::collections::BTreeSet;
-
-#[derive(Clone, Copy, Debug, PartialEq, Eq)]
-pub struct Piece {
-    pub desk: i64,
-    pub start: i64,
-    pub finish: i64,
-    pub latest: i64,
-    pub late: i64,
-}
-
-#[derive(Clone, Copy, Debug, PartialEq, Eq)]
-pub struct Run {
-    pub desk: i64,
-    pub piece: usize,
-    pub from: i64,
-    pub until: i64,
-}
-
-/// The pieces by number and the runs as listed.
-#[derive(Clone, Debug, Default, PartialEq, Eq)]
-pub struct Plan {
-    pub pieces: Vec<Piece>,
-    pub runs: Vec<Run>,
-    pub end: i64,
-    pub worst: i64,
-}
+use crate::plan::{Piece, Plan, Run};
+use crate::quote::quoted;
+use crate::text::is_number;
 
 #[derive(Clone, Debug, PartialEq, Eq)]
 pub enum Listing {
@@ -36,17 +13,10 @@ pub enum Listing {
     Refused { number: i64, place: i64 },
 }
 
-impl Plan {
-    /// The desks that have pieces, in order.
-    pub fn desks(&self) -> Vec<i64> {
-        let desks: BTreeSet<i64> = self.pieces.iter().map(|piece| piece.desk).collect();
-        desks.into_iter().collect()
-    }
-
-    pub fn late(&self, piece: usize) -> bool {
-        self.pieces[piece].late > 0
-    }
-}
+/// No number of a plan is further from zero: its records have four bytes for each.
+const FURTHEST: u64 = 4_294_967_295;
+const MOST_PIECES: usize = 256;
+const LAST_DESK: i64 = 31;
 
 /// Reads a whole listing. It ends with its total line, so that one cut short is noticed.
 pub fn read(text: &str) -> Result<Listing, Mistake> {
@@ -60,7 +30,7 @@ pub fn read(text: &str) -> Result<Listing, Mistake> {
         let words: Vec<&str> = line.split_whitespace().collect();
         match words.first().copied() {
             Some("piece") => {
-                let piece = piece(&words, plan.pieces.len()).map_err(mistake)?;
+                let piece = piece(&words, &plan).map_err(mistake)?;
                 plan.pieces.push(piece);
             }
             Some("run") => {
@@ -68,12 +38,14 @@ pub fn read(text: &str) -> Result<Listing, Mistake> {
                 plan.runs.push(run);
             }
             Some("total") => {
+                worked(&plan)?;
                 total(&words[1..], &mut plan).map_err(mistake)?;
                 ended = true;
             }
             Some("refused") if place == 0 => return refused(&words, text).map_err(mistake),
             _ => {
-                let what = format!("'{line}' is no line of a listing (piece, run, total, refused)");
+                let line = quoted(line);
+                let what = format!("{line} is no line of a listing (piece, run, total, refused)");
                 return Err(mistake(what));
             }
         }
@@ -85,7 +57,11 @@ pub fn read(text: &str) -> Result<Listing, Mistake> {
     }
 }
 
-fn piece(words: &[&str], number: usize) -> Result<Piece, String> {
+fn piece(words: &[&str], plan: &Plan) -> Result<Piece, String> {
+    let number = plan.pieces.len();
+    if !plan.runs.is_empty() || number == MOST_PIECES {
+        return Err(format!("at most {MOST_PIECES} pieces stand before the first run"));
+    }
     if field(words, "piece")? != number as i64 {
         return Err(format!("piece {number} should stand here"));
     }
@@ -98,6 +74,9 @@ fn piece(words: &[&str], number: usize) -> Result<Piece, String> {
     };
     if piece.desk < 0 || piece.start < 0 || piece.finish <= piece.start {
         return Err("desk and start are not below 0, and the finish is after the start".into());
+    }
+    if piece.desk > LAST_DESK {
+        return Err(format!("desk {} is above {LAST_DESK}", piece.desk));
     }
     if piece.late != piece.finish - piece.latest {
         return Err("late is not the finish less the latest moment".into());
@@ -120,7 +99,29 @@ fn run(words: &[&str], plan: &Plan) -> Result<Run, String> {
     {
         return Err(format!("the run does not fit the line of piece {piece}"));
     }
-    Ok(run)
+    match plan.runs.last() {
+        Some(above) if run.desk < above.desk => {
+            Err(format!("runs go by desk, and desk {} stands above it", above.desk))
+        }
+        Some(above) if run.desk == above.desk && run.from < above.until => {
+            Err(format!("the run begins before the one above it ends, at {}", above.until))
+        }
+        _ => Ok(run),
+    }
+}
+
+/// Every piece has runs, the first from its start and the last up to its finish. Pieces stand in
+/// the first lines, so that a piece's line is one more than its number.
+fn worked(plan: &Plan) -> Result<(), Mistake> {
+    for (number, piece) in plan.pieces.iter().enumerate() {
+        let of = || plan.runs.iter().filter(|run| run.piece == number);
+        let ends = of().next().zip(of().next_back()).map(|(first, last)| (first.from, last.until));
+        if ends != Some((piece.start, piece.finish)) {
+            let what = format!("the runs of piece {number} do not go from its start to its finish");
+            return Err(Mistake::in_line(number + 1, what));
+        }
+    }
+    Ok(())
 }
 
 fn total(words: &[&str], plan: &mut Plan) -> Result<(), String> {
@@ -153,5 +154,9 @@ fn refused(words: &[&str], text: &str) -> Result<Listing, String> {
 fn field(words: &[&str], name: &str) -> Result<i64, String> {
     let pair = words.chunks(2).find(|pair| pair[0] == name);
     let word = pair.and_then(|pair| pair.get(1)).ok_or(format!("the line has no {name}"))?;
-    word.parse().map_err(|_| format!("{name} '{word}' is not a whole number"))
+    if !is_number(word.strip_prefix('-').unwrap_or(word)) {
+        return Err(format!("{name} {} is not a whole number", quoted(word)));
+    }
+    let number = word.parse().ok().filter(|number: &i64| number.unsigned_abs() <= FURTHEST);
+    number.ok_or_else(|| format!("{name} {} is beyond every plan", quoted(word)))
 }

@@ -1,16 +1,19 @@
-//! The program `desk`: makes and shows job files and draws listings. It reads standard input and
-//! writes standard output; mistakes go to standard error.
+//! The program `desk`: makes and shows job files and draws listings. It reads a file or standard input and writes
+//! standard output; mistakes and warnings go to standard error.
 
-use desktools::listing::{self, Listing, Plan};
-use desktools::{chart, make, show, svg, words};
-use std::io::{self, Read, Write};
+use desktools::arguments::{asked, Asked, Command, Wrong};
+use desktools::listing::{self, Listing};
+use desktools::plan::Plan;
+use desktools::{chart, input, judge, make, show, svg, terminal, words};
+use std::io::{self, ErrorKind, Write};
 use std::process::ExitCode;
 
 const USAGE: &str = "\
-usage: desk make < text > file          a job file from its text form
-       desk show < file                 the text form of a job file
-       desk chart [--width N] < listing a chart of what deskplan printed
-       desk svg < listing > chart.svg   the same as a picture for the browser
+usage: desk make [TEXT] > JOBFILE               a job file from its text form
+       desk show [JOBFILE]                      the text form of a job file
+       desk chart [--width N] [LISTING]         a chart of what deskplan printed
+       desk svg [LISTING] > chart.svg           the same as a picture for the browser
+Each reads the file named, or standard input if none is named or - is.
 
 The text form, one line for each piece, then one for each link:
        piece translate desk 0 duration 4 release 0 due 20   # a comment
@@ -18,83 +21,74 @@ The text form, one line for each piece, then one for each link:
        link translate > check handover 2
 Names may be left out; pieces are then 0, 1, 2 and so on. Times are in slots of 15 minutes.
 A release or handover not given is 0. A line 'bytes 01 00 ...' gives a record as it is.
+What the planner would refuse is made all the same, with a warning that names its line.
 ";
 
-enum Failure {
-    /// The program was called in a way it does not know.
-    Call,
-    /// What was given could not be used; this is why.
-    Given(String),
-}
-
 fn main() -> ExitCode {
-    let arguments: Vec<String> = std::env::args().skip(1).collect();
+    let arguments: Vec<String> =
+        std::env::args_os().skip(1).map(|word| word.to_string_lossy().into_owned()).collect();
     let arguments: Vec<&str> = arguments.iter().map(String::as_str).collect();
-    let done = answer(&arguments).and_then(|output| {
-        io::stdout().write_all(&output).map_err(|error| Failure::Given(error.to_string()))
-    });
+    let done = match asked(&arguments) {
+        Ok(asked) => answer(&asked).and_then(|output| print(&output)),
+        Err(Wrong::Value(why)) => Err(why),
+        Err(Wrong::Call) => {
+            tell(USAGE);
+            return ExitCode::from(2);
+        }
+    };
     match done {
         Ok(()) => ExitCode::SUCCESS,
-        Err(Failure::Call) => {
-            eprint!("{USAGE}");
-            ExitCode::from(2)
-        }
-        Err(Failure::Given(why)) => {
-            eprintln!("desk: {why}");
+        Err(why) => {
+            tell(&format!("desk: {why}\n"));
             ExitCode::FAILURE
         }
     }
 }
 
-fn answer(arguments: &[&str]) -> Result<Vec<u8>, Failure> {
-    match arguments {
-        ["make"] => make::make(&text()?).map_err(|mistake| Failure::Given(mistake.to_string())),
-        ["show"] => Ok(show::show(&bytes()?).into_bytes()),
-        ["chart"] => Ok(chart::chart(&plan()?, usual_width()).into_bytes()),
-        ["chart", "--width", number] => {
-            let width = width(number)?;
-            Ok(chart::chart(&plan()?, width).into_bytes())
+/// On standard error. Where nobody reads it, there is nobody to be told of that.
+fn tell(words: &str) {
+    let _ = io::stderr().write_all(words.as_bytes());
+}
+
+/// A reader that has seen enough and closes the pipe is no failure.
+fn print(output: &[u8]) -> Result<(), String> {
+    let mut to = io::stdout().lock();
+    match to.write_all(output).and_then(|()| to.flush()) {
+        Err(error) if error.kind() != ErrorKind::BrokenPipe => {
+            Err(format!("standard output: {error}"))
         }
-        ["svg"] => Ok(svg::svg(&plan()?).into_bytes()),
-        ["help" | "--help"] => Ok(USAGE.into()),
-        _ => Err(Failure::Call),
+        _ => Ok(()),
     }
 }
 
-fn bytes() -> Result<Vec<u8>, Failure> {
-    let mut bytes = Vec::new();
-    match io::stdin().read_to_end(&mut bytes) {
-        Ok(_) => Ok(bytes),
-        Err(error) => Err(Failure::Given(error.to_string())),
+fn answer(asked: &Asked) -> Result<Vec<u8>, String> {
+    let file = asked.file.as_deref();
+    match asked.command {
+        Command::Make => made(&input::text(file)?),
+        Command::Show => Ok(show::show(&input::bytes(file)?).into_bytes()),
+        Command::Chart => {
+            let width = asked.width.or_else(terminal::columns).unwrap_or(80);
+            Ok(chart::chart(&plan(&input::text(file)?)?, width).into_bytes())
+        }
+        Command::Svg => Ok(svg::svg(&plan(&input::text(file)?)?).into_bytes()),
+        Command::Help => Ok(USAGE.into()),
     }
 }
 
-fn text() -> Result<String, Failure> {
-    let not_text = |_| Failure::Given("the input is not a text (UTF-8)".to_string());
-    String::from_utf8(bytes()?).map_err(not_text)
+/// The file is made as asked, also where the planner would refuse it: that is how refusals are tried out.
+fn made(text: &str) -> Result<Vec<u8>, String> {
+    let made = make::made(text).map_err(|mistake| mistake.to_string())?;
+    if let Some(warning) = judge::warning(&made) {
+        tell(&format!("desk: warning: {warning}\n"));
+    }
+    Ok(made.file)
 }
 
 /// A refused file has no plan to draw; the planner's reason is told instead.
-fn plan() -> Result<Plan, Failure> {
-    match listing::read(&text()?) {
+fn plan(text: &str) -> Result<Plan, String> {
+    match listing::read(text) {
         Ok(Listing::Planned(plan)) => Ok(plan),
-        Ok(Listing::Refused { number, place }) => {
-            Err(Failure::Given(words::refusal(number, place)))
-        }
-        Err(mistake) => Err(Failure::Given(mistake.to_string())),
+        Ok(Listing::Refused { number, place }) => Err(words::refusal(number, place)),
+        Err(mistake) => Err(mistake.to_string()),
     }
-}
-
-fn width(number: &str) -> Result<i64, Failure> {
-    let known = chart::LEAST_WIDTH..=chart::MOST_WIDTH;
-    let width = number.parse().ok().filter(|width| known.contains(width));
-    let (least, most) = (known.start(), known.end());
-    let why = format!("the width '{number}' is not a number from {least} to {most}");
-    width.ok_or(Failure::Given(why))
-}
-
-/// The width that the shell tells, if it tells one that can be used.
-fn usual_width() -> i64 {
-    let told = std::env::var("COLUMNS").ok();
-    told.and_then(|number| width(&number).ok()).unwrap_or(80)
 }

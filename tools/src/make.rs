@@ -3,11 +3,23 @@
 
 use crate::fields::{Field, Record, AFTER, BEFORE, LINK, LINK_FIELDS, PIECE, PIECE_FIELDS, RECORD};
 use crate::mistake::Mistake;
+use crate::quote::shown;
 use crate::text::{self, Content, Entry};
 use std::collections::HashMap;
 
+/// A job file with what it was made of: each record of its own entry, in the same order.
+pub struct Made {
+    pub file: Vec<u8>,
+    pub entries: Vec<Entry>,
+}
+
 /// The bytes of the job file that the text describes.
 pub fn make(text: &str) -> Result<Vec<u8>, Mistake> {
+    Ok(made(text)?.file)
+}
+
+/// The same with the entries of the text.
+pub fn made(text: &str) -> Result<Made, Mistake> {
     let entries = text::entries(text)?;
     let names = names(&entries)?;
     let mut file = Vec::new();
@@ -31,7 +43,7 @@ pub fn make(text: &str) -> Result<Vec<u8>, Mistake> {
             }
         }
     }
-    Ok(file)
+    Ok(Made { file, entries })
 }
 
 fn record(kind: u8, fields: &[Field], values: &[u64]) -> Record {
@@ -65,17 +77,20 @@ fn add_name(names: &mut Names, name: &str, piece: usize, line: usize) -> Result<
         return if name == piece.to_string() {
             Ok(())
         } else {
+            let name = shown(name);
             Err(format!("this is piece {piece} and not {name}; they count from 0 line by line"))
         };
     }
     match names.insert(name.to_string(), (piece, line)) {
-        Some((_, before)) => Err(format!("the name {name} was given before, in line {before}")),
+        Some((_, before)) => {
+            Err(format!("the name {} was given before, in line {before}", shown(name)))
+        }
         None => Ok(()),
     }
 }
 
 /// A record given by its bytes counts as a piece if the planner would take it for one.
-fn is_piece(content: &Content) -> bool {
+pub fn is_piece(content: &Content) -> bool {
     match content {
         Content::Piece { .. } => true,
         Content::Link { .. } => false,
@@ -90,6 +105,6 @@ fn named(word: &str, field: &Field, names: &Names) -> Result<u64, String> {
     }
     match names.get(word) {
         Some((number, _)) => text::number(&number.to_string(), field),
-        None => Err(format!("no piece has the name {word}")),
+        None => Err(format!("no piece has the name {}", shown(word))),
     }
 }

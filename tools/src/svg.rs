@@ -2,7 +2,7 @@
 //! hours, and a colour for each piece. Late pieces have a red frame and a mark, so that they are
 //! found without colour as well.
 
-use crate::listing::Plan;
+use crate::plan::Plan;
 use crate::time::{hour, length, marks};
 use crate::words::{lateness, title, verdict, NO_PIECES};
 

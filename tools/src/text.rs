@@ -3,6 +3,7 @@
 
 use crate::fields::{Field, LINK_FIELDS, PIECE_FIELDS, RECORD};
 use crate::mistake::Mistake;
+use crate::quote::{quoted, shown};
 
 /// One line that says something.
 pub struct Entry {
@@ -40,7 +41,9 @@ fn content(first: &str, rest: &[&str]) -> Result<Content, String> {
         "piece" => piece(rest),
         "link" => link(rest),
         "bytes" => bytes(rest),
-        _ => Err(format!("'{first}' is not known; a line begins with piece, link or bytes")),
+        _ => {
+            Err(format!("{} is not known; a line begins with piece, link or bytes", quoted(first)))
+        }
     }
 }
 
@@ -70,7 +73,8 @@ fn values(words: &[&str], fields: &[Field], of: &str) -> Result<Vec<u64>, String
     for pair in words.chunks(2) {
         let Some(place) = fields.iter().position(|field| field.name == pair[0]) else {
             let names: Vec<&str> = fields.iter().map(|field| field.name).collect();
-            return Err(format!("'{}' is no field of a {of} ({})", pair[0], names.join(", ")));
+            let word = quoted(pair[0]);
+            return Err(format!("{word} is no field of a {of} ({})", names.join(", ")));
         };
         let field = &fields[place];
         let Some(word) = pair.get(1) else {
@@ -90,12 +94,13 @@ fn values(words: &[&str], fields: &[Field], of: &str) -> Result<Vec<u64>, String
 /// A number that fits the bytes of its field. Whether the planner takes it is not asked.
 pub fn number(word: &str, field: &Field) -> Result<u64, String> {
     if !is_number(word) {
-        return Err(format!("{} '{word}' is not a whole number from 0 on", field.name));
+        return Err(format!("{} {} is not a whole number from 0 on", field.name, quoted(word)));
     }
     match word.parse() {
         Ok(value) if value <= field.most() => Ok(value),
         _ => {
             let (name, bytes, most) = (field.name, field.bytes, field.most());
+            let word = shown(word);
             let noun = if bytes == 1 { "byte" } else { "bytes" };
             Err(format!("{name} {word} does not fit in its {bytes} {noun} (at most {most})"))
         }
@@ -113,7 +118,7 @@ fn bytes(words: &[&str]) -> Result<Content, String> {
     let byte = |word: &&str| {
         let two_digits = word.len() == 2 && word.bytes().all(|byte| byte.is_ascii_hexdigit());
         let byte = two_digits.then(|| u8::from_str_radix(word, 16).ok()).flatten();
-        byte.ok_or(format!("'{word}' is not a byte of two hexadecimal digits"))
+        byte.ok_or_else(|| format!("{} is not a byte of two hexadecimal digits", quoted(word)))
     };
     Ok(Content::Bytes(words.iter().map(byte).collect::<Result<Vec<u8>, String>>()?))
 }

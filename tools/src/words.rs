@@ -1,7 +1,7 @@
 //! What a plan or a refusal says in words. The chart in the terminal and the one for the browser
 //! share these sentences.
 
-use crate::listing::Plan;
+use crate::plan::Plan;
 use crate::time::length;
 
 pub const NO_PIECES: &str = "The plan has no pieces.";
@@ -11,6 +11,18 @@ pub fn count(number: i64, noun: &str) -> String {
         1 => format!("1 {noun}"),
         _ => format!("{number} {noun}s"),
     }
+}
+
+/// A sentence in lines of at most this width, broken between words.
+pub fn wrapped(sentence: &str, width: usize) -> Vec<String> {
+    let mut lines: Vec<String> = Vec::new();
+    for word in sentence.split(' ') {
+        match lines.last_mut() {
+            Some(line) if line.len() + 1 + word.len() <= width => *line += &format!(" {word}"),
+            _ => lines.push(word.to_string()),
+        }
+    }
+    lines
 }
 
 /// What is planned and how long it takes.
@@ -44,22 +56,8 @@ pub fn lateness(late: i64) -> String {
     }
 }
 
-/// The meaning of a refusal on one line. Number and place stay in it, since they are what the
-/// planner's rules speak of.
+/// The meaning of a refusal on one line, in the words of the planner's own calls.
 pub fn refusal(number: i64, place: i64) -> String {
-    let meaning = match number {
-        1 => format!("bytes are left after {place} whole records"),
-        2 => format!("record {place} is of an unknown kind"),
-        3 => format!("record {place} is a piece after a link"),
-        4 => format!("record {place} is one piece or one link too many"),
-        5 => format!("the desk in record {place} is above 31"),
-        6 => format!("the duration in record {place} is 0 or above 960"),
-        7 => format!("the release or due in record {place} is above 40,000"),
-        8 => format!("a byte in record {place} should be zero and is not"),
-        9 => format!("record {place} links a piece that is not there"),
-        10 => format!("the handover in record {place} is above 480"),
-        11 => format!("piece {place} leads by links back to itself"),
-        _ => "see the planner's list of refusals".to_string(),
-    };
-    format!("The planner refused the job file with number {number} at {place}: {meaning}.")
+    let refusal: planner::Refusal = planner::raw::Refusal { number, place }.into();
+    format!("the job file was {refusal}")
 }

@@ -1,7 +1,7 @@
 //! The job file into tables, or the first refusal met. Piece numbers are bytes, since there are at most 256,
 //! so that no access to a table needs a check of its index.
 
-use desk::Refusal;
+use desk::raw::Refusal;
 
 pub struct Job {
     pub pieces: usize,

@@ -23,7 +23,7 @@ use Rattle.laws.proofs.Reading.{job-sound}
 use Rattle.reader.proofs.Refusals.{read-listed}
 
 -- The place of an outcome; 0 where it is accepted.
-placeOf : Outcome → ℕ
+unfoldable pub placeOf : Outcome → ℕ
 placeOf (refused r) = r .place
 placeOf (accepted J) = 0
 

@@ -39,9 +39,9 @@ pub record ListingCall (file text after : List ℕ) (row : List ℕ) : Type 0 wh
   pub left-there : after ≡ listedText file text
 
 -- number, place, bytes
-abbrev pub writeRow : WriteAnswer → List ℕ
-writeRow a = a .number ∷ a .place ∷ a .bytes ∷ []
+abbrev pub writeRow : WriteAnswer → List ℤ
+writeRow a = pos (a .number) ∷ pos (a .place) ∷ pos (a .bytes) ∷ []
 
-pub record WriteCall (pieces links buffer after row : List ℕ) : Type 0 where
+pub record WriteCall (pieces links buffer after : List ℕ) (row : List ℤ) : Type 0 where
   pub answered : row ≡ writeRow (writeAnswer pieces links buffer)
   pub left-there : after ≡ writeBuffer pieces links buffer

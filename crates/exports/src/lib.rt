@@ -86,11 +86,11 @@ pub extern "C" fn desk_write(
     pieces: &[u32],
     links: &[u32],
     buffer: &mut [u8],
-    answer: &mut [u64; 3],
+    answer: &mut [i64; 3],
 )
     ensures { λ _. ⌜ WriteCall (now (pieces .entry)) (now (links .entry)) (now (buffer .entry)) (now (buffer .exit))
         (now (answer .exit)) ⌝ }
 {
     let a = writer::file::write_file(pieces, links, buffer);
-    *answer = [a.number as u64, a.place, a.bytes as u64];
+    *answer = [small(a.number), place(a.place), count(a.bytes)];
 }

@@ -3,7 +3,7 @@
 
 use crate::notation::{accepted, block_answer, link, piece, plan_answer, planned, refusal};
 use crate::notation::{result, run, sheet, MARK};
-use desk::{BlockAnswer, PlanAnswer};
+use desk::raw::{self, BlockAnswer, PlanAnswer};
 
 #[test]
 fn durations() {
@@ -83,19 +83,19 @@ fn buffers_of_just_the_room_and_one_byte_less() {
     for count in [1, 2, 255, 256] {
         let file = piece(3, 2, 0, 0).repeat(count);
         let mut buffer = vec![MARK; 48 * count];
-        assert_eq!(desk::plan(&file, &mut buffer).number, 0);
-        assert_eq!(desk::blocks(&file, 3, &mut buffer).number, 0);
-        assert_eq!(desk::blocks(&file, 4, &mut buffer).number, 0);
+        assert_eq!(raw::plan(&file, &mut buffer).number, 0);
+        assert_eq!(raw::blocks(&file, 3, &mut buffer).number, 0);
+        assert_eq!(raw::blocks(&file, 4, &mut buffer).number, 0);
         let mut short = vec![MARK; 48 * count - 1];
         assert_eq!(
-            desk::plan(&file, &mut short),
+            raw::plan(&file, &mut short),
             PlanAnswer { number: 12, ..PlanAnswer::default() }
         );
         let refused = BlockAnswer { number: 12, ..BlockAnswer::default() };
         // The block sheet asks room for all pieces of the file, also for a desk that has none.
-        assert_eq!(desk::blocks(&file, 3, &mut short), refused);
-        assert_eq!(desk::blocks(&file, 4, &mut short), refused);
-        assert_eq!(desk::blocks(&file, 32, &mut short).number, 13);
+        assert_eq!(raw::blocks(&file, 3, &mut short), refused);
+        assert_eq!(raw::blocks(&file, 4, &mut short), refused);
+        assert_eq!(raw::blocks(&file, 32, &mut short).number, 13);
         assert!(short.iter().all(|&byte| byte == MARK), "a refused call wrote");
     }
 }

@@ -49,8 +49,8 @@ fn the_most_runs() {
     assert_eq!(of_sheet[1..], rows[256..]);
     // The same in a buffer of just the room.
     let mut buffer = vec![0; 48 * 256];
-    assert_eq!(desk::plan(&file, &mut buffer).runs, 511);
-    assert_eq!(desk::blocks(&file, 9, &mut buffer).runs, 511);
+    assert_eq!(desk::raw::plan(&file, &mut buffer).runs, 511);
+    assert_eq!(desk::raw::blocks(&file, 9, &mut buffer).runs, 511);
 }
 
 /// Every desk has eight pieces at once; desks do not wait for each other.

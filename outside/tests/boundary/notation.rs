@@ -1,7 +1,7 @@
 //! Short ways to write files and records by hand, and calls whose buffers are looked at to the last byte.
 //! Each call gets a marked buffer; all bytes behind the records must keep their mark.
 
-use desk::{BlockAnswer, PlanAnswer};
+use desk::raw::{self, BlockAnswer, PlanAnswer};
 
 pub const MARK: u8 = 0xA5;
 
@@ -51,13 +51,13 @@ pub fn block(desk: u8, pieces: u16, from: i32, end: i32) -> Row {
 /// The plan in a buffer with room for every file and some bytes more.
 pub fn planned(file: &[u8]) -> (PlanAnswer, Vec<Row>) {
     let mut buffer = vec![MARK; 48 * 256 + 5];
-    let answer = desk::plan(file, &mut buffer);
+    let answer = raw::plan(file, &mut buffer);
     (answer, rows(&buffer, answer.pieces + answer.runs))
 }
 
 pub fn sheet(file: &[u8], desk: u8) -> (BlockAnswer, Vec<Row>) {
     let mut buffer = vec![MARK; 48 * 256 + 5];
-    let answer = desk::blocks(file, desk, &mut buffer);
+    let answer = raw::blocks(file, desk, &mut buffer);
     (answer, rows(&buffer, answer.blocks + answer.runs))
 }
 

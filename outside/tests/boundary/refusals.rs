@@ -92,11 +92,11 @@ fn after_the_records() {
     assert_eq!(refusal(&ring), (11, 0));
     assert_eq!(refusal(&[&ring[..], &[2]].concat()), (1, 2));
     // A ring comes before the desk asked for, and this before the room.
-    assert_eq!(desk::blocks(&ring, 32, &mut []).number, 11);
-    assert_eq!(desk::blocks(&piece(0, 1, 0, 0), 32, &mut []).number, 13);
-    assert_eq!(desk::blocks(&piece(0, 1, 0, 0), 31, &mut []).number, 12);
-    assert_eq!(desk::plan(&ring, &mut []).number, 11);
-    assert_eq!(desk::plan(&piece(0, 1, 0, 0), &mut []).number, 12);
+    assert_eq!(desk::raw::blocks(&ring, 32, &mut []).number, 11);
+    assert_eq!(desk::raw::blocks(&piece(0, 1, 0, 0), 32, &mut []).number, 13);
+    assert_eq!(desk::raw::blocks(&piece(0, 1, 0, 0), 31, &mut []).number, 12);
+    assert_eq!(desk::raw::plan(&ring, &mut []).number, 11);
+    assert_eq!(desk::raw::plan(&piece(0, 1, 0, 0), &mut []).number, 12);
 }
 
 #[test]

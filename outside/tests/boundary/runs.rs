@@ -1,7 +1,7 @@
 //! The runs of one desk over all bytes: only the first two bytes of whole records count, and only the first
 //! stretch of a desk is given.
 
-use desk::runs;
+use desk::raw::runs;
 
 fn record(kind: u8, desk: u8) -> Vec<u8> {
     let mut record = vec![0xEE; 16];

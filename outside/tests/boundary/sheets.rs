@@ -3,7 +3,8 @@
 
 use crate::notation::{block, block_answer, file, link, piece, plan_answer, planned, refusal};
 use crate::notation::{result, run, sheet};
-use desk::{listing, LISTING_ROOM};
+use desk::raw::listing;
+use desk::LISTING_ROOM;
 
 #[test]
 fn p1() {

@@ -2,7 +2,8 @@
 //! judgement, and buffers of just the room and one byte less.
 
 use crate::notation::{file, MARK};
-use desk::{write, Refusal, WriteAnswer, FILE_ROOM};
+use desk::raw::{plan, write, Refusal, WriteAnswer};
+use desk::FILE_ROOM;
 
 /// The refusal with room enough, if there is one; then no byte was touched.
 fn refusal(pieces: &[[u32; 4]], links: &[[u32; 3]]) -> Option<Refusal> {
@@ -83,5 +84,5 @@ fn rows_cut_short_come_behind_the_values_and_before_the_room() {
 fn a_ring_is_written() {
     let mut file = [MARK; 32];
     assert_eq!(write(&[0, 1, 0, 0], &[0, 0, 0], &mut file).refusal(), None);
-    assert_eq!(desk::plan(&file, &mut [0; 48]).refusal(), refused(11, 0));
+    assert_eq!(plan(&file, &mut [0; 48]).refusal(), refused(11, 0));
 }

@@ -2,7 +2,7 @@
 //! those that the rules page says must not pass.
 
 use crate::compared;
-use desk::{BlockAnswer, PlanAnswer, WriteAnswer};
+use desk::raw::{self, BlockAnswer, PlanAnswer, WriteAnswer};
 use outside::calls::{Blocks, Calls, Listing, Plan, Runs, Write, PROVED};
 
 #[test]
@@ -23,26 +23,26 @@ fn wrong_plans_are_found() {
         // Refuses everything.
         |_, _| PlanAnswer { number: 2, ..PlanAnswer::default() },
         // Answers rightly and writes nothing.
-        |file, buffer| desk::plan(file, &mut buffer.to_vec()),
+        |file, buffer| raw::plan(file, &mut buffer.to_vec()),
         // Counts a run too many.
         |file, buffer| {
-            let answer = desk::plan(file, buffer);
+            let answer = raw::plan(file, buffer);
             PlanAnswer { runs: answer.runs + i64::from(answer.number == 0), ..answer }
         },
         // Leaves numbers in the answer of a refusal.
         |file, buffer| {
-            let answer = desk::plan(file, buffer);
+            let answer = raw::plan(file, buffer);
             PlanAnswer { end: answer.end.max(answer.number), ..answer }
         },
         // Clears what stands behind the records.
         |file, buffer| {
-            let answer = desk::plan(file, buffer);
+            let answer = raw::plan(file, buffer);
             buffer[answer.written()..].fill(0);
             answer
         },
         // Lists the first run of a piece and forgets that it was taken up again.
         |file, buffer| {
-            let answer = desk::plan(file, buffer);
+            let answer = raw::plan(file, buffer);
             let last = answer.written();
             if answer.runs > answer.pieces {
                 buffer[last - 16..last].fill(0);
@@ -52,10 +52,10 @@ fn wrong_plans_are_found() {
         // Refuses a short buffer before it looks at the file.
         |file, buffer| match buffer.len() < 48 {
             true => PlanAnswer { number: 12, ..PlanAnswer::default() },
-            false => desk::plan(file, buffer),
+            false => raw::plan(file, buffer),
         },
         // Does not look at the last byte.
-        |file, buffer| desk::plan(&file[..file.len().saturating_sub(1)], buffer),
+        |file, buffer| raw::plan(&file[..file.len().saturating_sub(1)], buffer),
     ];
     for (place, plan) in wrong.into_iter().enumerate() {
         assert!(compared(Calls { plan, ..PROVED }, 7, 500).is_err(), "wrong plan {place} passed");
@@ -66,11 +66,11 @@ fn wrong_plans_are_found() {
 fn wrong_block_sheets_are_found() {
     let wrong: [Blocks; 4] = [
         // Has no desk without pieces.
-        |file, desk, buffer| desk::blocks(file, desk % 32, buffer),
+        |file, desk, buffer| raw::blocks(file, desk % 32, buffer),
         // Asks no room where there is nothing to write.
         |file, desk, buffer| {
-            let answer = desk::blocks(file, desk, buffer);
-            let there = desk::blocks(file, desk, &mut vec![0; 48 * 260]);
+            let answer = raw::blocks(file, desk, buffer);
+            let there = raw::blocks(file, desk, &mut vec![0; 48 * 260]);
             if there.blocks == 0 && there.number == 0 {
                 there
             } else {
@@ -79,13 +79,13 @@ fn wrong_block_sheets_are_found() {
         },
         // Counts runs as blocks.
         |file, desk, buffer| {
-            let answer = desk::blocks(file, desk, buffer);
+            let answer = raw::blocks(file, desk, buffer);
             BlockAnswer { blocks: answer.runs, ..answer }
         },
         // Gives the whole plan's worst lateness.
         |file, desk, buffer| {
-            let answer = desk::blocks(file, desk, buffer);
-            let worst = desk::plan(file, &mut vec![0; 48 * 260]).worst;
+            let answer = raw::blocks(file, desk, buffer);
+            let worst = raw::plan(file, &mut vec![0; 48 * 260]).worst;
             BlockAnswer { worst: if answer.blocks > 0 { worst } else { answer.worst }, ..answer }
         },
     ];
@@ -101,9 +101,9 @@ fn wrong_runs_are_found() {
         // Always the empty stretch.
         |records, _| &records[..0],
         // The right bytes without their first record.
-        |records, desk| desk::runs(records, desk).get(16..).unwrap_or(&records[..0]),
+        |records, desk| raw::runs(records, desk).get(16..).unwrap_or(&records[..0]),
         // The empty stretch at the back.
-        |records, desk| match desk::runs(records, desk) {
+        |records, desk| match raw::runs(records, desk) {
             [] => &records[records.len()..],
             stretch => stretch,
         },
@@ -117,10 +117,10 @@ fn wrong_runs_are_found() {
 fn wrong_listings_are_found() {
     let wrong: [Listing; 2] = [
         // No newline at the end.
-        |file, text| desk::listing(file, text).strip_suffix(b"\n").unwrap_or_default(),
+        |file, text| raw::listing(file, text).strip_suffix(b"\n").unwrap_or_default(),
         // As long as the listing, and something else.
         |file, text| {
-            let length = desk::listing(file, text).len();
+            let length = raw::listing(file, text).len();
             text[..length].fill(b'0');
             &text[..length]
         },
@@ -137,19 +137,19 @@ fn wrong_writers_are_found() {
         // Refuses everything.
         |_, _, _| WriteAnswer { number: 14, ..WriteAnswer::default() },
         // Answers rightly and writes nothing.
-        |pieces, links, buffer| desk::write(pieces, links, &mut buffer.to_vec()),
+        |pieces, links, buffer| raw::write(pieces, links, &mut buffer.to_vec()),
         // Writes what room there is.
         |pieces, links, buffer| {
             let mut room = vec![0; desk::FILE_ROOM];
-            if desk::write(pieces, links, buffer).number == 14 {
-                desk::write(pieces, links, &mut room);
+            if raw::write(pieces, links, buffer).number == 14 {
+                let _ = raw::write(pieces, links, &mut room);
                 buffer.copy_from_slice(&room[..buffer.len()]);
             }
-            desk::write(pieces, links, buffer)
+            raw::write(pieces, links, buffer)
         },
         // Clears what stands behind the file.
         |pieces, links, buffer| {
-            let answer = desk::write(pieces, links, buffer);
+            let answer = raw::write(pieces, links, buffer);
             if answer.number == 0 {
                 buffer[answer.written()..].fill(0);
             }
@@ -159,22 +159,22 @@ fn wrong_writers_are_found() {
         |pieces, links, buffer| {
             let cut = |number: &u32| number & 0xFFFF;
             let links: Vec<u32> = links.iter().map(cut).collect();
-            desk::write(pieces, &links, buffer)
+            raw::write(pieces, &links, buffer)
         },
         // Judges the room first.
         |pieces, links, buffer| match buffer.len() < 4 * pieces.len() {
             true => WriteAnswer { number: 14, ..WriteAnswer::default() },
-            false => desk::write(pieces, links, buffer),
+            false => raw::write(pieces, links, buffer),
         },
         // Passes over a row cut short.
         |pieces, links, buffer| {
             let whole = pieces.len() / 4 * 4;
-            desk::write(&pieces[..whole], &links[..links.len() / 3 * 3], buffer)
+            raw::write(&pieces[..whole], &links[..links.len() / 3 * 3], buffer)
         },
         // Counts records from 1.
         |pieces, links, buffer| {
-            let answer = desk::write(pieces, links, buffer);
-            let one = u64::from((2..=10).contains(&answer.number));
+            let answer = raw::write(pieces, links, buffer);
+            let one = i64::from((2..=10).contains(&answer.number));
             WriteAnswer { place: answer.place + one, ..answer }
         },
     ];

@@ -1,6 +1,6 @@
 //! Charts for the terminal, compared letter by letter. The expected ones were drawn by hand.
 
-use crate::{planned, P1_LISTING};
+use crate::{planned, ruler, P1_LISTING};
 use desktools::chart::chart;
 
 #[test]
@@ -27,7 +27,8 @@ A letter or digit is a piece as in the table.
     assert_eq!(chart(&planned(P1_LISTING), 80), expected);
 }
 
-/// 100 slots in 40 - 8 columns: four slots for a column make 25 columns.
+/// 100 slots in 40 - 8 columns: four slots for a column make 25 columns. No line is longer than 40: sentences are
+/// broken, and in the table words get lines of their own.
 #[test]
 fn a_long_plan_is_drawn_together() {
     let text = "\
@@ -41,8 +42,10 @@ total pieces 3 runs 3 end 100 worst 14
 ";
     // Column 12 stands for slots 48 to 51, where piece 0 ends and piece 1 begins.
     let expected = "\
-Plan of 3 pieces on 2 desks, finished at slot 100 (25 h).
-1 of 3 pieces is late, the worst by 14 slots (3 h 30 min).
+Plan of 3 pieces on 2 desks, finished at
+slot 100 (25 h).
+1 of 3 pieces is late, the worst by 14
+slots (3 h 30 min).
 One column is 4 slots (1 h).
 
 slot    0           48          96
@@ -53,11 +56,15 @@ desk 0  000000000000*1...........
 desk 5  ......................222
 
    piece  desk  start  finish   latest
-0      0     0      0      50       60  10 slots early
-1      1     0     50      54       40  LATE by 14 slots
-2      2     5     90     100      100  just in time
+0      0     0      0      50       60
+        10 slots early
+1      1     0     50      54       40
+        LATE by 14 slots
+2      2     5     90     100      100
+        just in time
 
-A letter or digit is a piece as in the table.
+A letter or digit is a piece as in the
+table.
 . the desk rests
 * several pieces in one column
 ! the piece above it is late
@@ -146,8 +153,9 @@ fn the_drawing_keeps_to_the_width_and_shows_every_desk() {
     for width in [40, 41, 57, 80, 132, 1000] {
         for pieces in [1, 2, 30, 31, 32, 33, 71, 72, 73, 144, 255, 256] {
             let drawing = chart(&planned(&in_a_row(pieces, 2.min(pieces))), width);
-            let ruler = drawing.lines().nth(6).unwrap().len();
-            assert!(ruler <= width as usize, "{pieces} pieces in {width}");
+            let ruler = ruler(&drawing);
+            let widest = drawing.lines().map(str::len).max().unwrap();
+            assert!(widest <= width as usize, "{pieces} pieces in {width}");
             assert!(8 + pieces.min(width as usize - 8) / 2 <= ruler, "too little of the width");
             let desks = drawing.lines().filter(|line| line.starts_with("desk ")).count();
             assert_eq!(desks, 2.min(pieces));

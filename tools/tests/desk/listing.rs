@@ -2,7 +2,8 @@
 //! one thing changed, and what is said about it is expected to the letter.
 
 use crate::{planned, P1_LISTING};
-use desktools::listing::{read, Listing, Piece, Plan, Run};
+use desktools::listing::{read, Listing};
+use desktools::plan::{Piece, Plan, Run};
 
 #[test]
 fn the_first_sheet() {

@@ -1,8 +1,8 @@
-//! The program as a person calls it. Good output goes to one stream and complaints to the other,
-//! never both.
+//! The program as a person calls it. Good output goes to one stream and complaints to the other;
+//! both come only where a file is made that the planner would refuse.
 
 use crate::{P1_BYTES, P1_LISTING, P1_TEXT};
-use std::io::Write;
+use std::io::{Read, Write};
 use std::process::{Command, Stdio};
 
 /// Exit code, standard output and standard error.
@@ -36,7 +36,12 @@ fn told(arguments: &[&str], input: &[u8]) -> String {
 }
 
 fn ruler(chart: &[u8]) -> usize {
-    String::from_utf8(chart.to_vec()).unwrap().lines().nth(6).unwrap().len()
+    crate::ruler(std::str::from_utf8(chart).unwrap())
+}
+
+/// The name of a file of the tests.
+fn file(name: &str) -> String {
+    format!("{}/tests/{name}", env!("CARGO_MANIFEST_DIR"))
 }
 
 #[test]
@@ -48,13 +53,62 @@ fn make_and_show() {
 }
 
 #[test]
+fn files_are_named_or_come_in() {
+    let (text, listing) = (file("p1.txt"), file("p1.listing"));
+    assert_eq!(printed(&["make", &text], None, b"piece"), P1_BYTES);
+    assert_eq!(printed(&["make", "-"], None, P1_TEXT.as_bytes()), P1_BYTES);
+    let drawn = printed(&["chart"], None, P1_LISTING.as_bytes());
+    assert_eq!(printed(&["chart", &listing], None, b""), drawn);
+    assert_eq!(printed(&["chart", "-"], None, P1_LISTING.as_bytes()), drawn);
+    let picture = printed(&["svg"], None, P1_LISTING.as_bytes());
+    assert_eq!(printed(&["svg", &listing], None, b""), picture);
+    // A file shown as bytes, since it is no job file: the text itself.
+    assert!(printed(&["show", &text], None, b"").starts_with(b"bytes 23 20 54 68 65 20"));
+    let missing = told(&["make", "no/such\u{1b}file"], b"");
+    assert_eq!(missing, "desk: no/such\\u{1b}file: No such file or directory (os error 2)\n");
+}
+
+#[test]
+fn a_byte_order_mark_is_passed_over() {
+    let marked = |text: &str| format!("\u{feff}{text}").into_bytes();
+    assert_eq!(printed(&["make"], None, &marked(P1_TEXT)), P1_BYTES);
+    let text = "piece a desk 0 duration 1 due 1";
+    assert_eq!(printed(&["make"], None, &marked(text))[..4], [1, 0, 1, 0]);
+    let drawn = printed(&["chart"], None, P1_LISTING.as_bytes());
+    assert_eq!(printed(&["chart"], None, &marked(P1_LISTING)), drawn);
+    // A second one is no mark but a letter.
+    let twice = told(&["make"], &marked(&format!("\u{feff}{text}")));
+    assert_eq!(
+        twice,
+        "desk: line 1: '\\u{feff}piece' is not known; a line begins with piece, link or bytes\n"
+    );
+}
+
+/// The file is made, since refusals are to be tried out, and what the planner would say is told.
+#[test]
+fn a_faulty_file_is_made_with_a_warning() {
+    let text = "piece a desk 0 duration 1 due 1\n\nlink a > a handover 500\n";
+    let (code, output, warned) = desk(&["make"], None, text.as_bytes());
+    let words = "desk: warning: line 3, link a > a: the handover 500 is above 480 \
+                 (the planner refuses the file: 10 at 1)\n";
+    assert_eq!((code, warned.as_str()), (0, words));
+    assert_eq!(output[16..], [2, 0, 0, 0, 0, 0, 0xF4, 1, 0, 0, 0, 0, 0, 0, 0, 0]);
+    let (code, output, warned) = desk(&["make"], None, text.replace("500", "5").as_bytes());
+    let words = "desk: warning: line 3, link a > a: a ring: a > a (the planner refuses the file: 11 at 0)\n";
+    assert_eq!((code, output.len(), warned.as_str()), (0, 32, words));
+}
+
+#[test]
 fn the_chart_goes_by_the_width() {
     let input = P1_LISTING.as_bytes();
     // 11 slots of 4, 3, 2 and again 4 columns after 8 for the label.
     assert_eq!(ruler(&printed(&["chart"], None, input)), 52);
     assert_eq!(ruler(&printed(&["chart"], Some("41"), input)), 41);
     assert_eq!(ruler(&printed(&["chart", "--width", "40"], Some("41"), input)), 30);
+    assert_eq!(ruler(&printed(&["chart", "--width=40"], Some("41"), input)), 30);
     assert_eq!(ruler(&printed(&["chart"], Some("wide"), input)), 52);
+    assert_eq!(ruler(&printed(&["chart"], Some("7"), input)), 30);
+    assert_eq!(ruler(&printed(&["chart"], Some("100000"), input)), 52);
 }
 
 #[test]
@@ -66,8 +120,8 @@ fn svg_is_a_picture() {
 
 #[test]
 fn a_refused_listing_gives_one_line() {
-    let words = "desk: The planner refused the job file with number 6 at 2: \
-                 the duration in record 2 is 0 or above 960.\n";
+    let words =
+        "desk: the job file was refused 6 at 2: the duration in record 2 is 0 or above 960\n";
     assert_eq!(told(&["chart"], b"refused 6 at 2\n"), words);
     assert_eq!(told(&["svg"], b"refused 6 at 2\n"), words);
 }
@@ -79,19 +133,54 @@ fn mistakes_print_nothing_else() {
     let cut = "desk: the listing is cut short: it has no line 'total'\n";
     assert_eq!(told(&["chart"], b""), cut);
     assert_eq!(told(&["svg"], b""), cut);
-    for width in ["39", "1001", "-80", "wide"] {
-        let words = format!("desk: the width '{width}' is not a number from 40 to 1000\n");
-        assert_eq!(told(&["chart", "--width", width], P1_LISTING.as_bytes()), words);
-    }
+    let forged = P1_LISTING.replace("finish 6 latest 7", "finish 9223372036854775807 latest 7");
+    let words = "desk: line 1: finish '9223372036854775807' is beyond every plan\n";
+    assert_eq!(told(&["chart"], forged.as_bytes()), words);
+    assert_eq!(told(&["svg"], forged.as_bytes()), words);
+    let width = "desk: the width '39' is not a number from 40 to 1000\n";
+    assert_eq!(told(&["chart", "--width", "39"], P1_LISTING.as_bytes()), width);
 }
 
 #[test]
 fn unknown_calls_show_how_it_is_called() {
-    for arguments in [&[][..], &["draw"], &["make", "file"], &["chart", "--width"], &["svg", "-o"]]
+    for arguments in
+        [&[][..], &["draw"], &["make", "a", "b"], &["chart", "--width"], &["svg", "-o"]]
     {
         let (code, output, told) = desk(arguments, None, b"");
         assert_eq!((code, output), (2, Vec::new()));
-        assert!(told.starts_with("usage: desk make < text > file"));
+        assert!(told.starts_with("usage: desk make [TEXT] > JOBFILE"));
     }
     assert!(printed(&["help"], None, b"").starts_with(b"usage: desk make"));
+}
+
+/// A reader that has seen enough closes the pipe; that is no failure and nothing is said. The text is longer than
+/// what a pipe holds, so that the program cannot be done before.
+#[test]
+fn a_closed_pipe_is_no_failure() {
+    let text = "piece desk 0 duration 1 due 1\n".repeat(8_192);
+    let mut command = Command::new(env!("CARGO_BIN_EXE_desk"));
+    let streams =
+        command.arg("show").stdin(Stdio::piped()).stdout(Stdio::piped()).stderr(Stdio::piped());
+    let mut child = streams.spawn().unwrap();
+    let mut reader = child.stdout.take().unwrap();
+    child.stdin.take().unwrap().write_all(text.as_bytes()).unwrap();
+    let mut first = [0; 5];
+    reader.read_exact(&mut first).unwrap();
+    assert_eq!(&first, b"bytes");
+    drop(reader);
+    let output = child.wait_with_output().unwrap();
+    let told = String::from_utf8(output.stderr).unwrap();
+    assert_eq!((output.status.code(), told.as_str()), (Some(0), ""));
+}
+
+/// Where nobody reads the complaints, the exit status still tells of them.
+#[test]
+fn complaints_that_nobody_reads() {
+    let mut command = Command::new(env!("CARGO_BIN_EXE_desk"));
+    let streams =
+        command.arg("make").stdin(Stdio::piped()).stdout(Stdio::null()).stderr(Stdio::piped());
+    let mut child = streams.spawn().unwrap();
+    drop(child.stderr.take());
+    child.stdin.take().unwrap().write_all(b"piece").unwrap();
+    assert_eq!(child.wait().unwrap().code(), Some(1));
 }

@@ -1,7 +1,7 @@
 //! Times and sentences that both charts use. Each is expected word by word.
 
 use desktools::time::{hour, length, marks};
-use desktools::words::{count, lateness, refusal};
+use desktools::words::{count, lateness, refusal, wrapped};
 
 #[test]
 fn lengths_and_hours() {
@@ -31,25 +31,16 @@ fn counts_and_lateness() {
 }
 
 #[test]
-fn every_refusal_has_its_words() {
-    let all: Vec<String> = (1..=11).map(|number| refusal(number, 5)).collect();
-    let meanings = [
-        "bytes are left after 5 whole records",
-        "record 5 is of an unknown kind",
-        "record 5 is a piece after a link",
-        "record 5 is one piece or one link too many",
-        "the desk in record 5 is above 31",
-        "the duration in record 5 is 0 or above 960",
-        "the release or due in record 5 is above 40,000",
-        "a byte in record 5 should be zero and is not",
-        "record 5 links a piece that is not there",
-        "the handover in record 5 is above 480",
-        "piece 5 leads by links back to itself",
-    ];
-    for (number, (words, meaning)) in (1..).zip(all.iter().zip(meanings)) {
-        let expected =
-            format!("The planner refused the job file with number {number} at 5: {meaning}.");
-        assert_eq!(*words, expected);
-    }
-    assert!(refusal(99, 0).ends_with("number 99 at 0: see the planner's list of refusals."));
+fn refusals_are_told_in_the_words_of_the_calls() {
+    let words = "the job file was refused 6 at 2: the duration in record 2 is 0 or above 960";
+    assert_eq!(refusal(6, 2), words);
+    let words = "the job file was refused 99 at 0: see the planner's list of refusals";
+    assert_eq!(refusal(99, 0), words);
+}
+
+#[test]
+fn sentences_are_broken_between_words() {
+    assert_eq!(wrapped("one two three", 13), ["one two three"]);
+    assert_eq!(wrapped("one two three", 12), ["one two", "three"]);
+    assert_eq!(wrapped("one two three", 3), ["one", "two", "three"]);
 }
