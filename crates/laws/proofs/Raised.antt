@@ -61,7 +61,7 @@ module _ (J : Job) where
 
   -- What the pieces before i on its desk make of its ready moment, given their own: the right side of the equation.
   unfoldable pub lifted : (ℕ → ℕ) → ℕ → ℕ
-  unfolding greatest ready fromOwnDesk openEnd
+  unfolding greatest ready fromOwnDesk
   lifted moment i =
       greatest (ready J i)
       (map (λ l. openEnd J (desk J i) (moment (l .before)) (duration J (l .before))) (fromOwnDesk J i))
