@@ -1,5 +1,5 @@
--- Rows judged one after another: what is left to judge gives the whole answer. Told of any offers in a row, with the job
--- that the offers before each make; then of pieces and of links.
+-- Rows judged one after another: what is left to judge gives the whole answer. Told of any offers in a row, with the
+-- job that the offers before each make; then of pieces and of links.
 use Prim.Native.Nat.{ℕ, suc, _+_, _-_, _<_}
 use mathlib.Core.List.{List, [], _∷_, _++_, map}
 use mathlib.Core.Path.{_≡_, sym, ap, _∙_}

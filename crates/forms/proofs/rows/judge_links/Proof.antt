@@ -7,7 +7,8 @@ use borrow.Author.Needs.{needs}
 use lib.ListN.{length}
 use Rattle.rules.specs.Words.{row, below}
 use Rattle.rules.specs.Form.{pieceRow, linkRow, takeAll}
-use Rattle.forms.proofs.InTurn.{fromRow, row-refused, row-taken, first-row, last-row, offeredLink, linksBefore, link-on, rows-count}
+use Rattle.forms.proofs.InTurn.{fromRow, row-refused, row-taken, first-row, last-row, offeredLink, linksBefore}
+use Rattle.forms.proofs.InTurn.{link-on, rows-count}
 use Rattle.forms.proofs.rows.judge_links.Statement.{statement}
 use Rattle.forms.proofs.rows.judge_links.Tie as tie
 
@@ -48,7 +49,8 @@ returns c ps =
       taken = λ z. absurd (c .if1 .taken z);
       stopped = λ wrong.
           L .inv .2 ps
-          ∙ row-refused (offeredLink ps rows (a .pieces)) (linksBefore ps rows (a .pieces)) (a .pieces) (length rows / 3)
+          ∙ row-refused (offeredLink ps rows (a .pieces)) (linksBefore ps rows (a .pieces)) (a .pieces)
+          (length rows / 3)
           (link-on ps rows (a .pieces)) k _ _ [] (omega arith)
           (c .before .link-row-fault .ensures (linksBefore ps rows (a .pieces) k) (rows-count (pieceRow ps) (a .pieces))
           (rows-count (linkRow rows) k)) wrong refl;
@@ -72,7 +74,8 @@ loop-again c =
       λ ps. L .inv .2 ps
           ∙ row-taken (offeredLink ps rows (a .pieces)) (linksBefore ps rows (a .pieces)) (a .pieces) (length rows / 3)
           (link-on ps rows (a .pieces)) k [] (omega arith)
-          (sym (c .before .link-row-fault .ensures (linksBefore ps rows (a .pieces) k) (rows-count (pieceRow ps) (a .pieces))
+          (sym (c .before .link-row-fault .ensures (linksBefore ps rows (a .pieces) k)
+          (rows-count (pieceRow ps) (a .pieces))
           (rows-count (linkRow rows) k)) ∙ c .if1 .left),
     )
 

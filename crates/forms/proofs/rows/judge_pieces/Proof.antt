@@ -10,7 +10,8 @@ use Rattle.rules.specs.Words.{row, below}
 use Rattle.rules.specs.Job.{emptyJob}
 use Rattle.rules.specs.Form.{pieceRow, takeAll}
 use Rattle.rules.specs.declared.Item.{Item}
-use Rattle.forms.proofs.InTurn.{fromRow, row-refused, row-taken, first-row, last-row, offeredPiece, piecesBefore, piece-on, rows-count}
+use Rattle.forms.proofs.InTurn.{fromRow, row-refused, row-taken, first-row, last-row, offeredPiece, piecesBefore}
+use Rattle.forms.proofs.InTurn.{piece-on, rows-count}
 use Rattle.forms.proofs.rows.judge_pieces.Statement.{statement}
 use Rattle.forms.proofs.rows.judge_pieces.Tie as tie
 
@@ -42,8 +43,10 @@ returns c xs =
       taken = λ z. absurd (c .if1 .taken z);
       stopped = λ wrong.
           L .inv .2 xs
-          ∙ row-refused (offeredPiece rows) (piecesBefore rows) 0 (length rows / 4) (piece-on rows) i _ i xs (omega arith)
-          (c .before .piece-row-fault .ensures (piecesBefore rows i) (rows-count (pieceRow rows) i) refl) wrong (zero-add i);
+          ∙ row-refused (offeredPiece rows) (piecesBefore rows) 0 (length rows / 4) (piece-on rows) i _ i xs
+          (omega arith)
+          (c .before .piece-row-fault .ensures (piecesBefore rows i) (rows-count (pieceRow rows) i) refl) wrong
+          (zero-add i);
     }
 
 add-i : tie.Need-add-i Inv-loop μ-loop
@@ -59,11 +62,13 @@ loop-again c =
     let L = c .before .before .before .loop in
     let i = L .i in
     let fine =
-    sym (c .before .piece-row-fault .ensures (piecesBefore rows i) (rows-count (pieceRow rows) i) refl) ∙ c .if1 .left in (
+    sym (c .before .piece-row-fault .ensures (piecesBefore rows i) (rows-count (pieceRow rows) i) refl)
+    ∙ c .if1 .left in (
       omega arith,
       refl,
       λ xs. L .inv .2 xs
-          ∙ row-taken (offeredPiece rows) (piecesBefore rows) 0 (length rows / 4) (piece-on rows) i xs (omega arith) fine,
+          ∙ row-taken (offeredPiece rows) (piecesBefore rows) 0 (length rows / 4) (piece-on rows) i xs
+          (omega arith) fine,
     )
 
 returns-2 : tie.Need-returns-2 Inv-loop μ-loop
