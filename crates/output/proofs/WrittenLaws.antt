@@ -1,4 +1,5 @@
--- Records written one behind the other: each stands 16 bytes behind the one before, and a record more is one store more.
+-- Records written one behind the other: each stands 16 bytes behind the one before, and a record more is one store
+-- more.
 use Prim.Native.Nat.{ℕ, zero, suc, _+_, _-_, _*_, _≤_, _<_}
 use mathlib.Core.Bool.{true, false}
 use mathlib.Core.List.{List, _++_, map}
@@ -47,7 +48,8 @@ module _ (desks starts finishes : List ℕ) (latests : List ℤ) where
   unfolding resultsIn
   results-more b i =
       let q : 16 * i ≡ 0 + length (resultsIn i desks starts finishes latests) = omega (arith, results-length i) in
-      ap (λ x. sets (sets b 0 (resultsIn i desks starts finishes latests)) x (resultIn desks starts finishes latests i)) q
+      ap (λ x. sets (sets b 0 (resultsIn i desks starts finishes latests)) x (resultIn desks starts finishes latests i))
+      q
       ∙ sets-on b 0 (resultsIn i desks starts finishes latests) (resultIn desks starts finishes latests i)
       ∙ ap (sets b 0) (sym (joined-more (resultIn desks starts finishes latests) i)
       ∙ ap (λ k. resultsIn k desks starts finishes latests) (sym (add-one i)))
@@ -161,7 +163,8 @@ module _ (desks pieces froms untils : List ℕ) (d : ℕ) where
     );
   })
 
-  pub one-passed : (b : List ℕ) (at k : ℕ) (buf : List ℕ) (next : ℕ) → Logged desks pieces froms untils d b at k buf next
+  pub one-passed : (b : List ℕ) (at k : ℕ) (buf : List ℕ) (next : ℕ)
+      → Logged desks pieces froms untils d b at k buf next
       → eqb (getD desks (getD pieces k 0) 0) d ≡ false → Logged desks pieces froms untils d b at (k + 1) buf next
   one-passed b at k buf next l e = rw add-one (record {
     same = l .same;

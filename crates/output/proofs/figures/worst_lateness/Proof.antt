@@ -68,8 +68,8 @@ lateness-requires-2 c κs =
     rw (toZ-ofZ w32 (getD (a .latests .now) (L .i) (pos 0)) (record { sfits = c .lateness-arg4 .given }))
     (c .before .before .before .before .before .before .before .before .pre .1 (L .i) (omega arith))
 
-later-requires : tie.Need-later-requires Inv-loop μ-loop
-later-requires c κs = search needs
+greater-requires : tie.Need-greater-requires Inv-loop μ-loop
+greater-requires c κs = search needs
 
 add-i : tie.Need-add-i Inv-loop μ-loop
 add-i c = omega arith
@@ -90,7 +90,7 @@ loop-again c =
     (record { sfits = c .before .before .lateness-arg4 .given })) in (
       omega arith,
       omega arith,
-      toZ-ofZ w32 (c .later .result) (record { sfits = c .later .ok }) ∙ c .later .ensures
+      toZ-ofZ w32 (c .greater .result) (record { sfits = c .greater .ok }) ∙ c .greater .ensures
           ∙ ap (λ z. greaterZ z (toZ w32 (ofZ w32 (c .before .lateness2 .result)))) (L .inv .2)
           ∙ ap (greaterZ (worstOf (map (latenessIn (a .finishes .now) (a .latests .now)) (below (L .i))))) this-piece
           ∙ worst-more (latenessIn (a .finishes .now) (a .latests .now)) (L .i) (omega arith),
@@ -117,7 +117,7 @@ worst-lateness-spec =
     mul-lateness-2
     element-copy-out-lateness-4
     lateness-requires-2
-    later-requires
+    greater-requires
     add-i
     loop-less
     loop-again

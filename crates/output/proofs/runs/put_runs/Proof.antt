@@ -51,7 +51,8 @@ loop-again c =
     let a = c .before .before .before .before .before .before .before .before .before .before .before .before .args in
     let L = c .before .before .before .before .before .before .before .loop in (
       omega arith,
-      one-desk-more (a .count) (a .desks .now) (a .pieces .now) (a .froms .now) (a .untils .now) (a .buffer .now) (a .at)
+      one-desk-more (a .count) (a .desks .now) (a .pieces .now) (a .froms .now) (a .untils .now) (a .buffer .now)
+          (a .at)
           (L .desk) (L .buffer) (L .next) _ _ (L .inv .1) (c .before .before .put-desk-runs .ensures),
     )
 
