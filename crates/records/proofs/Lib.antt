@@ -2,4 +2,5 @@
 pub mod FirstFrom
 pub mod StretchLaws
 pub mod Stores
+pub mod InARow
 pub mod TwosComplement

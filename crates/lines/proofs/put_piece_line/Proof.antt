@@ -73,8 +73,8 @@ six : (c : tie.After-put-signed-field2) → Stand (begin (piece-put (desk-put (s
 unfolding field letters signedField
 six c =
     let s = begin (piece-put (desk-put (start-put (finish-put (latest-put c))))) in
-    then-field (five (latest-put c)) (simp
-    (late-is (s .args .finish) (s .args .latest) (s .fits .latest) (s .pre .1)) at (c .put-signed-field2 .ensures))
+    let late = late-is (s .args .finish) (s .args .latest) (s .fits .latest) (s .pre .1) in
+    then-field (five (latest-put c)) (simp late at (c .put-signed-field2 .ensures))
 
 slice-aggregate-put-field : tie.Need-slice-aggregate-put-field
 slice-aggregate-put-field c = search needs
