@@ -53,16 +53,17 @@ element-copy-out-put-piece-line-4 c = search needs
 
 put-piece-line-requires : tie.Need-put-piece-line-requires Inv-loop μ-loop
 put-piece-line-requires c κs =
-    let a = c .before .before .before .before .before .before .before .before .args in
-    let L = c .before .before .before .before .before .before .loop in
-    let p = c .before .before .before .before .before .before .before .before .pre in (
+    let turn = c .before .before .before .before .before .before in
+    let start = turn .before .before in
+    let a = start .args in
+    let L = turn .loop in
+    let p = start .pre in (
       omega (
         arith,
         L .inv .2 .past,
         L .inv .1,
         p .1,
-        pieces-most (a .desks .now) (a .starts .now) (a .finishes .now)
-            (a .latests .now) (L .i),
+        pieces-most (a .desks .now) (a .starts .now) (a .finishes .now) (a .latests .now) (L .i),
       ),
       rw (toZ-ofZ w32 (getD (a .latests .now) (L .i) (pos 0)) (record { sfits = c .put-piece-line-arg5 .given }))
           (p .2 (L .i) (omega arith)),
@@ -77,11 +78,13 @@ loop-less c = omega arith
 loop-again : tie.Need-loop-again Inv-loop μ-loop
 unfolding pieceLineIn
 loop-again c =
-    let a = c .before .before .before .before .before .before .before .before .before .before .before .args in
-    let L = c .before .before .before .before .before .before .before .before .before .loop in
-    let put = simp (toZ-ofZ w32 (getD (a .latests .now) (L .i) (pos 0))
-    (record { sfits = c .before .before .before .put-piece-line-arg5 .given })) at
-    (c .before .before .put-piece-line .ensures) in (
+    let line = c .before .before in
+    let turn = line .before .before .before .before .before .before .before in
+    let a = turn .before .before .args in
+    let L = turn .loop in
+    let latest = toZ-ofZ w32 (getD (a .latests .now) (L .i) (pos 0))
+    (record { sfits = line .before .put-piece-line-arg5 .given }) in
+    let put = simp latest at (line .put-piece-line .ensures) in (
       omega arith,
       puts-same {xs = pieceLineIn (a .desks .now) (a .starts .now) (a .finishes .now) (a .latests .now) (L .i)} put
           ∙ L .inv .1,
