@@ -4,7 +4,6 @@ use judge::faults::piece_order_fault;
 use judge::parts::first_of;
 use judge::values::link_fault;
 use judge::values::piece_fault;
-ghost use mathlib.Core.Path.{_≡_};
 ghost use Prim.Native.Nat.{_+_, _*_, _<_};
 ghost use lib.ListN.{length};
 ghost use Rattle.rules.specs.Form.{pieceRow, linkRow, offerFault};

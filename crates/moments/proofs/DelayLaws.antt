@@ -1,6 +1,6 @@
 -- The delay of a link and what a link takes off, as the rules define them: all that is known of the two definitions
 -- here.
-use Prim.Native.Nat.{ℕ, _+_}
+use Prim.Native.Nat.{_+_}
 use mathlib.Core.Path.{_≡_, refl}
 use lib.Dec.{eqb}
 use Rattle.rules.specs.Words.{when}

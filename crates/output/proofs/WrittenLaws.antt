@@ -15,7 +15,7 @@ use Rattle.rules.specs.Words.{keep, below, joined}
 use Rattle.rules.specs.Bytes.{word, signedWord, planRecord, runRecord, lastWord}
 use Rattle.steps.specs.Log.{runAt, loggedRuns}
 use Rattle.laws.proofs.Words.{by-test, length-below}
-use Rattle.laws.proofs.Joined.{joined-more, kept-more, not-kept-more, map-twice, mem-of-map}
+use Rattle.laws.proofs.Joined.{kept-more, not-kept-more, map-twice, mem-of-map}
 use Rattle.laws.proofs.Bytes.{word-sized, signed-sized, record-sized, run-sized, records-sized}
 use Rattle.records.proofs.Stores.{sets-on}
 use Rattle.records.proofs.InARow.{put-more}

@@ -1,6 +1,6 @@
 -- `judge::faults::link_record_fault` meets its contract: its order, its values and its zero bytes are the rule's.
 use denote.Ref.{now}
-use mathlib.Core.Path.{refl, sym, ap₂, ap, _∙_}
+use mathlib.Core.Path.{refl, sym, ap₂, _∙_}
 use Rattle.rules.specs.File.{ofLink}
 use Rattle.rules.specs.Reading.{kindFault, valueFault, linkFault}
 use Rattle.judge.proofs.InTurn.{in-turn}
