@@ -1,5 +1,6 @@
-// The boundary cases of the rules page ("Run by a program"), on the calls for plans, listings and block sheets: one line for
-// each, with what was tried and how it was answered. What they must print stands in `stdout`, written by hand from the page.
+// The boundary cases of the rules page ("Run by a program"), on the calls for plans, listings and block sheets: one
+// line for each, with what was tried and how it was answered. What they must print stands in `stdout`, written by hand
+// from the page.
 use deskplan_text::write_listing;
 use libc::STDOUT_FILENO;
 use planner::plan;

@@ -1,6 +1,7 @@
-// The boundary cases of the writer: the first sheet of the rules page from its rows, every value at its bound and beyond it,
-// as many rows as there may be and one more, and buffers of just the room and one byte less. One line for each, with how it
-// was answered. What they must print stands in `stdout`, written by hand from the page and the request.
+// The boundary cases of the writer: the first sheet of the rules page from its rows, every value at its bound and
+// beyond it, as many rows as there may be and one more, and buffers of just the room and one byte less. One line for
+// each, with how it was answered. What they must print stands in `stdout`, written by hand from the page and the
+// request.
 use libc::STDOUT_FILENO;
 use rules::WriteAnswer;
 use writer::file::write_file;

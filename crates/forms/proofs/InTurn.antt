@@ -1,8 +1,8 @@
--- Rows judged one after another: what is left to judge gives the whole answer. Told of any offers in a row, with the job
--- that the offers before each make; then of pieces and of links.
+-- Rows judged one after another: what is left to judge gives the whole answer. Told of rows of any kind, with the job
+-- that the rows before each make; then of pieces and of links.
 use Prim.Native.Nat.{ℕ, suc, _+_, _-_, _<_}
 use mathlib.Core.List.{List, [], _∷_, _++_, map}
-use mathlib.Core.Path.{_≡_, sym, ap, _∙_}
+use mathlib.Core.Path.{_≡_, refl, sym, ap, _∙_}
 use native.Mathlib.Omega.{arith}
 use native.Mathlib.Numerals.{add-one}
 use lib.ListN.{length, length-map}
@@ -15,79 +15,107 @@ use Rattle.rules.specs.declared.Item.the-variants.{Work, Tie}
 use Rattle.laws.proofs.Words.{length-below}
 use Rattle.laws.proofs.Joined.{map-append, below-more}
 use Rattle.laws.proofs.Offers.{taken-first, refused-first}
-use Rattle.forms.specs.Judged.{firstRows}
+use Rattle.forms.specs.Judged.{Told, firstRows}
+
+-- Rows of one kind: what row i offers, and the job that the rows before it make.
+pub record Offered : Type 0 where
+  pub offer : ℕ → Item
+  pub before : ℕ → Job
+  pub goes-on : (i : ℕ) (onward : Job → Outcome) → andThen (offer i) (before i) onward ≡ onward (before (i + 1))
 
 -- One more of a table over the numbers below n.
 map-more : {A : Type 0} (f : ℕ → A) (n : ℕ) → map f (below n) ++ (f n ∷ []) ≡ map f (below (n + 1))
-map-more f n = sym (ap (λ k. map f (below k)) (add-one n) ∙ ap (map f) (below-more n) ∙ map-append f (below n) (n ∷ []))
+map-more f n =
+    sym (ap (λ k. map f (below k)) (add-one n) ∙ ap (map f) (below-more n) ∙ map-append f (below n) (n ∷ []))
 
-module _ (f : ℕ → Item) (before : ℕ → Job) (from n : ℕ)
-    (goes-on : (i : ℕ) (onward : Job → Outcome) → andThen (f i) (before i) onward ≡ onward (before (i + 1))) where
-  -- The judgement from row i on, with more offered behind the rows.
-  abbrev pub fromRow : ℕ → List Item → Outcome
-  fromRow i xs = takeAll (map f (row i (n - i)) ++ xs) (from + i) (before i)
+-- n rows from place `from` of the file on, with more offered behind them.
+module _ (K : Offered) (from n : ℕ) (xs : List Item) where
+  abbrev pub whole : Outcome
+  whole = takeAll (map (K .offer) (below n) ++ xs) from (K .before 0)
 
-  at-row : (i : ℕ) → i < n → map f (row i (n - i)) ≡ f i ∷ map f (row (i + 1) (n - (i + 1)))
+  -- The judgement from row i on.
+  abbrev pub rest : ℕ → Outcome
+  rest i = takeAll (map (K .offer) (row i (n - i)) ++ xs) (from + i) (K .before i)
+
+  at-row : (i : ℕ) → i < n → map (K .offer) (row i (n - i)) ≡ K .offer i ∷ map (K .offer) (row (i + 1) (n - (i + 1)))
   unfolding row
   at-row i h =
       let q : n - i ≡ suc (n - (i + 1)) = omega arith in
-      ap (λ m. map f (row i m)) q ∙ ap (λ j. f i ∷ map f (row j (n - (i + 1)))) (sym (add-one i))
+      ap (λ m. map (K .offer) (row i m)) q
+      ∙ ap (λ j. K .offer i ∷ map (K .offer) (row j (n - (i + 1)))) (sym (add-one i))
 
-  pub row-refused : (i fault place : ℕ) (xs : List Item) → i < n → fault ≡ offerFault (before i) (f i) → (fault ≡ 0 → ⊥)
-      → from + i ≡ place → fromRow i xs ≡ refused (record { number = fault; place = place })
-  row-refused i fault place xs h e wrong there =
-      ap (λ l. takeAll (l ++ xs) (from + i) (before i)) (at-row i h)
-      ∙ refused-first (f i) (map f (row (i + 1) (n - (i + 1))) ++ xs) (from + i) (before i) fault e wrong
-      ∙ ap (λ k. refused (record { number = fault; place = k })) there
-
-  pub row-taken : (i : ℕ) (xs : List Item) → i < n → offerFault (before i) (f i) ≡ 0 → fromRow i xs ≡ fromRow (i + 1) xs
-  row-taken i xs h fine =
-      let rest : List Item = map f (row (i + 1) (n - (i + 1))) ++ xs in
-      let q : from + i + 1 ≡ from + (i + 1) = omega arith in
-      ap (λ l. takeAll (l ++ xs) (from + i) (before i)) (at-row i h)
-      ∙ taken-first (f i) rest (from + i) (before i) fine
-      ∙ goes-on i (λ J. takeAll rest (from + i + 1) J)
-      ∙ ap (λ k. takeAll rest k (before (i + 1))) q
-
-  pub first-row : (xs : List Item) → takeAll (map f (below n) ++ xs) from (before 0) ≡ fromRow 0 xs
+  pub judge-start : whole ≡ rest 0
   unfolding below
-  first-row xs =
+  judge-start =
       let z : n ≡ n - 0 = omega arith in
       let y : from ≡ from + 0 = omega arith in
-      ap (λ m. takeAll (map f (row 0 m) ++ xs) from (before 0)) z
-      ∙ ap (λ k. takeAll (map f (row 0 (n - 0)) ++ xs) k (before 0)) y
+      ap (λ m. takeAll (map (K .offer) (row 0 m) ++ xs) from (K .before 0)) z
+      ∙ ap (λ k. takeAll (map (K .offer) (row 0 (n - 0)) ++ xs) k (K .before 0)) y
 
-  pub last-row : (xs : List Item) → fromRow n xs ≡ takeAll xs (from + n) (before n)
+  -- Row i has this fault.
+  module _ (i : ℕ) (h : i < n) (so-far : whole ≡ rest i) (fault : ℕ)
+      (judged : fault ≡ offerFault (K .before i) (K .offer i)) where
+    pub judge-on : fault ≡ 0 → whole ≡ rest (i + 1)
+    judge-on fine =
+        let later : List Item = map (K .offer) (row (i + 1) (n - (i + 1))) ++ xs in
+        let q : from + i + 1 ≡ from + (i + 1) = omega arith in
+        so-far
+        ∙ ap (λ l. takeAll (l ++ xs) (from + i) (K .before i)) (at-row i h)
+        ∙ taken-first (K .offer i) later (from + i) (K .before i) (sym judged ∙ fine)
+        ∙ K .goes-on i (λ J. takeAll later (from + i + 1) J)
+        ∙ ap (λ k. takeAll later k (K .before (i + 1))) q
+
+    pub judge-stops : (place : ℕ) → from + i ≡ place → (fault ≡ 0 → ⊥) → (fine : Outcome)
+        → Told whole fine (record { number = fault; place = place })
+    judge-stops place there wrong fine = record {
+      taken = λ z. absurd (wrong z);
+      stopped = λ w.
+          so-far
+          ∙ ap (λ l. takeAll (l ++ xs) (from + i) (K .before i)) (at-row i h)
+          ∙ refused-first (K .offer i) (map (K .offer) (row (i + 1) (n - (i + 1))) ++ xs) (from + i) (K .before i)
+          fault judged wrong
+          ∙ ap (λ k. refused (record { number = fault; place = k })) there;
+    }
+
+  pub judge-ends : (i end : ℕ) → i ≡ n → from + n ≡ end → whole ≡ rest i
+      → Told whole (takeAll xs end (K .before n)) (record { number = 0; place = 0 })
   unfolding row
-  last-row xs = let z : n - n ≡ 0 = omega arith in ap (λ m. takeAll (map f (row n m) ++ xs) (from + n) (before n)) z
+  judge-ends i end done there so-far =
+      let z : n - n ≡ 0 = omega arith in
+      record {
+        taken = λ e.
+            so-far ∙ ap rest done ∙ ap (λ m. takeAll (map (K .offer) (row n m) ++ xs) (from + n) (K .before n)) z
+            ∙ ap (λ k. takeAll xs k (K .before n)) there;
+        stopped = λ wrong. absurd (wrong refl);
+      }
 
--- Pieces.
-module _ (rows : List ℕ) where
-  abbrev pub offeredPiece : ℕ → Item
-  offeredPiece i = Work (pieceRow rows i)
+-- The rows of pieces.
+pub piece-on : (rows : List ℕ) (i : ℕ) (onward : Job → Outcome)
+    → andThen (Work (pieceRow rows i)) (firstRows rows [] i 0) onward ≡ onward (firstRows rows [] (i + 1) 0)
+unfolding andThen
+piece-on rows i onward =
+    ap (λ ps. onward (record { pieces = ps; links = map (linkRow []) (below 0) })) (map-more (pieceRow rows) i)
 
-  abbrev pub piecesBefore : ℕ → Job
-  piecesBefore i = firstRows rows [] i 0
+abbrev pub pieceRows : List ℕ → Offered
+pieceRows rows = record {
+  offer = λ i. Work (pieceRow rows i);
+  before = λ i. firstRows rows [] i 0;
+  goes-on = piece-on rows;
+}
 
-  pub piece-on : (i : ℕ) (onward : Job → Outcome)
-      → andThen (offeredPiece i) (piecesBefore i) onward ≡ onward (piecesBefore (i + 1))
-  unfolding andThen
-  piece-on i onward =
-      ap (λ ps. onward (record { pieces = ps; links = map (linkRow []) (below 0) })) (map-more (pieceRow rows) i)
+-- The rows of links behind n pieces.
+pub link-on : (pieces rows : List ℕ) (n k : ℕ) (onward : Job → Outcome)
+    → andThen (Tie (linkRow rows k)) (firstRows pieces rows n k) onward ≡ onward (firstRows pieces rows n (k + 1))
+unfolding andThen
+link-on pieces rows n k onward =
+    ap (λ ls. onward (record { pieces = map (pieceRow pieces) (below n); links = ls })) (map-more (linkRow rows) k)
 
--- Links behind n pieces.
-module _ (pieces rows : List ℕ) (n : ℕ) where
-  abbrev pub offeredLink : ℕ → Item
-  offeredLink k = Tie (linkRow rows k)
-
-  abbrev pub linksBefore : ℕ → Job
-  linksBefore k = firstRows pieces rows n k
-
-  pub link-on : (k : ℕ) (onward : Job → Outcome)
-      → andThen (offeredLink k) (linksBefore k) onward ≡ onward (linksBefore (k + 1))
-  unfolding andThen
-  link-on k onward =
-      ap (λ ls. onward (record { pieces = map (pieceRow pieces) (below n); links = ls })) (map-more (linkRow rows) k)
+abbrev pub linkRows : List ℕ → List ℕ → ℕ → Offered
+linkRows pieces rows n = record {
+  offer = λ k. Tie (linkRow rows k);
+  before = λ k. firstRows pieces rows n k;
+  goes-on = link-on pieces rows n;
+}
 
 -- How many there are.
 pub rows-count : {A : Type 0} (f : ℕ → A) (n : ℕ) → length (map f (below n)) ≡ n

@@ -1,3 +1,3 @@
--- Laws of rows judged and of records put one after another.
+-- Laws of rows judged one after another, and of the words of their records.
 pub mod InTurn
 pub mod Records

@@ -3,3 +3,5 @@
 // these.
 pub mod faults;
 pub mod fields;
+pub mod parts;
+pub mod values;

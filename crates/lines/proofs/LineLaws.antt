@@ -1,5 +1,5 @@
 -- The fields of a line one behind the other: each has at most 35 bytes, and they and the newline are the line.
-use Prim.Native.Nat.{ℕ, _+_, _*_, _≤_}
+use Prim.Native.Nat.{ℕ, _+_, _*_, _≤_, _<_}
 use mathlib.Core.List.{List, [], _∷_, _++_, append-nil}
 use mathlib.Core.Path.{_≡_, refl, ap, _∙_}
 use native.Mathlib.Omega.{arith}
@@ -15,16 +15,16 @@ use Rattle.rules.specs.Listing.{letters, line, field, signedField, digits, sign
 use Prim.Native.String.{String}
 use Rattle.laws.proofs.Joined.{joined-append}
 use Rattle.texts.specs.Puts.{Puts, PutsField}
-use Rattle.lines.specs.Lines.{pieceText, runText, totalText, refusedText}
+use Rattle.lines.specs.Lines.{FieldFits, pieceText, runText, totalText, refusedText}
 use Rattle.texts.proofs.TextLaws.{puts-same, puts-then, puts-byte, number-fits, signed-fits}
 
 -- Some fields stand there, at most 35 bytes each.
-pub record Fields (b : List ℕ) (at : ℕ) (fs : List (List ℕ)) (mid : List ℕ) (next most : ℕ) : Type 0 where
+pub record Fields (b : List ℕ) (at : ℕ) (fs : List (List ℕ)) (mid : List ℕ) (next : ℕ) : Type 0 where
   pub put : Puts b at (joined fs) mid next
   pub same : length mid ≡ length b
-  pub near : next ≤ at + most
+  pub near : next ≤ at + 35 * length fs
 
-pub no-field : (b : List ℕ) (at : ℕ) → Fields b at [] b at 0
+pub no-field : (b : List ℕ) (at : ℕ) → Fields b at [] b at
 unfolding joined
 no-field b at = record { put = record { written = refl; past = omega arith }; same = refl; near = omega arith }
 
@@ -32,13 +32,21 @@ joined-one : (f : List ℕ) → joined (f ∷ []) ≡ f
 unfolding joined
 joined-one f = append-nil f
 
-module _ {b : List ℕ} {at : ℕ} {fs : List (List ℕ)} {mid : List ℕ} {next most : ℕ} (F : Fields b at fs mid next most) where
-  pub then-field : {f after : List ℕ} {end : ℕ} → PutsField mid next f after end → Fields b at (fs ++ (f ∷ [])) after end (most + 35)
+module _ {b : List ℕ} {at : ℕ} {fs : List (List ℕ)} {mid : List ℕ} {next : ℕ} (F : Fields b at fs mid next) where
+  pub then-field : {f after : List ℕ} {end : ℕ} → PutsField mid next f after end
+      → Fields b at (fs ++ (f ∷ [])) after end
   then-field {f} {after} {end} p = record {
     put = rw (joined-append fs (f ∷ []), joined-one f) (puts-then (F .put) (p .put));
     same = puts-same (p .put) ∙ F .same;
-    near = omega (arith, p .put .past, p .few, F .near);
+    near = omega (arith, p .put .past, p .few, F .near, length-append fs (f ∷ []));
   }
+
+  -- The text that had room for one more field still has it.
+  pub field-fits : {w : List ℕ} → length w ≤ 14 → at + 35 * length fs + 35 ≤ length b → FieldFits w mid next
+  field-fits short enough = record { short = short; room = omega (arith, F .same, F .near) }
+
+  pub newline-fits : at + 35 * length fs + 1 ≤ length b → next < length mid
+  newline-fits enough = omega (arith, F .same, F .near)
 
   -- The newline ends the line.
   pub then-newline : Puts b at (line fs) (set mid next 10) (next + 1)
@@ -54,10 +62,14 @@ module _ (w : List ℕ) {b mid after : List ℕ} {at next end : ℕ} (short : le
   number-field n q = record { put = puts-then p q; few = omega (arith, length-append w (digits n), number-fits n) }
 
   pub signed-field : (z : ℤ) → Puts mid next (signedDigits z) after end → PutsField b at (w ++ signedDigits z) after end
-  signed-field z q = record { put = puts-then p q; few = omega (arith, length-append w (signedDigits z), signed-fits z) }
+  signed-field z q = record {
+    put = puts-then p q;
+    few = omega (arith, length-append w (signedDigits z), signed-fits z);
+  }
 
 -- Finish less latest moment, as 32 bits have it.
-pub late-is : (f : ℕ) (l : ℤ) → SFits w32 l → Bounded f l → toZ w32 (ofZ w32 (toZ w32 f -ℤ toZ w32 (ofZ w32 l))) ≡ latenessOf f l
+pub late-is : (f : ℕ) (l : ℤ) → SFits w32 l → Bounded f l
+    → toZ w32 (ofZ w32 (toZ w32 f -ℤ toZ w32 (ofZ w32 l))) ≡ latenessOf f l
 late-is f l fits h =
     ap (λ x. toZ w32 (ofZ w32 (x -ℤ toZ w32 (ofZ w32 l)))) (toZ-pos w32 {n = f} (omega (arith, h .early)))
     ∙ ap (λ x. toZ w32 (ofZ w32 (pos f -ℤ x))) (toZ-ofZ fits) ∙ toZ-ofZ (late-fits f l h)
@@ -71,7 +83,8 @@ joined-most : (fs : List (List ℕ)) → Short fs → length (joined fs) ≤ 35 
 unfolding joined
 joined-most [] h = omega arith
 joined-most (f ∷ fs) h =
-    let ih : length (joined fs) ≤ 35 * length fs = joined-most fs (h .1) in omega (arith, h .0, length-append f (joined fs))
+    let ih : length (joined fs) ≤ 35 * length fs = joined-most fs (h .1) in
+    omega (arith, h .0, length-append f (joined fs))
 
 line-most : (fs : List (List ℕ)) → Short fs → length (line fs) ≤ 35 * length fs + 1
 unfolding line
@@ -95,7 +108,10 @@ piece-most i d s f l = line-most (
         field-most " desk " d (omega arith),
         (
           field-most " start " s (omega arith),
-          (field-most " finish " f (omega arith), (signed-most " latest " l (omega arith), (signed-most " late " (latenessOf f l) (omega arith), tt))),
+          (
+            field-most " finish " f (omega arith),
+            (signed-most " latest " l (omega arith), (signed-most " late " (latenessOf f l) (omega arith), tt)),
+          ),
         ),
       ),
     )

@@ -1,5 +1,5 @@
--- The lines of a listing over plain numbers, out of the tables of a finished plan: for each piece its desk, start, finish and
--- latest moment; for each run of the log its piece, its first slot and one past its last.
+-- The lines of a listing over plain numbers, out of the tables of a finished plan: for each piece its desk, start,
+-- finish and latest moment; for each run of the log its piece, its first slot and one past its last.
 use Prim.Native.Nat.{ℕ, _+_, _≤_, _<_}
 use mathlib.Core.List.{List, [], _∷_, map}
 use lib.Dec.{eqb}

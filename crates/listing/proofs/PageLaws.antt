@@ -1,4 +1,5 @@
--- Lines one behind the other: one line more at a time, the lines of one desk out of the log, and how long they are at most.
+-- Lines one behind the other: one line more at a time, the lines of one desk out of the log, and how long they are at
+-- most.
 use Prim.Native.Nat.{ℕ, zero, suc, _+_, _-_, _*_, _≤_, _<_}
 use mathlib.Core.Bool.{true, false}
 use mathlib.Core.List.{List, [], _++_, map, append-nil}
@@ -30,7 +31,8 @@ module _ (page piece : ℕ → List ℕ) (more : (k : ℕ) → page (suc k) ≡ 
   pub grown : (k n : ℕ) → k ≤ n → length (page k) ≤ length (page n)
   grown k n h = let q : k + (n - k) ≡ n = omega arith in rw q at (grow k (n - k))
 
-  pub page-most : (most : ℕ) → ((k : ℕ) → length (piece k) ≤ most) → length (page 0) ≡ 0 → (n : ℕ) → length (page n) ≤ most * n
+  pub page-most : (most : ℕ) → ((k : ℕ) → length (piece k) ≤ most) → length (page 0) ≡ 0 → (n : ℕ)
+      → length (page n) ≤ most * n
   page-most most h z zero = omega (arith, z)
   page-most most h z (suc n) =
       let ih : length (page n) ≤ most * n = page-most most h z n in
@@ -54,7 +56,8 @@ module _ (desks starts finishes : List ℕ) (latests : List ℤ) where
 
   pub pieces-most : (n : ℕ) → length (pieceLinesIn n desks starts finishes latests) ≤ 211 * n
   unfolding pieceLinesIn pieceLineIn
-  pieces-most = page-most (λ n. pieceLinesIn n desks starts finishes latests) (pieceLineIn desks starts finishes latests) pieces-more 211
+  pieces-most = page-most (λ n. pieceLinesIn n desks starts finishes latests)
+      (pieceLineIn desks starts finishes latests) pieces-more 211
       (λ i. piece-most i (getD desks i 0) (getD starts i 0) (getD finishes i 0) (getD latests i (pos 0))) refl
 
 module _ (desks pieces froms untils : List ℕ) where
@@ -62,17 +65,20 @@ module _ (desks pieces froms untils : List ℕ) where
       ≡ deskLinesIn k desks pieces froms untils d ++ runLineIn desks pieces froms untils d k
   unfolding deskLinesIn loggedRuns runLineIn
   logged-more d k = by-test (eqb (getD desks (getD pieces k 0) 0) d)
-      (λ e. ap joined (map-twice (runAt pieces froms untils) (runLine d) (keep (λ k. eqb (getD desks (getD pieces k 0) 0) d) (below (suc k))))
+      (λ e. ap joined (map-twice (runAt pieces froms untils) (runLine d)
+      (keep (λ k. eqb (getD desks (getD pieces k 0) 0) d) (below (suc k))))
       ∙ kept-more (λ k. eqb (getD desks (getD pieces k 0) 0) d) (λ k. runLine d (runAt pieces froms untils k)) k e
       ∙ ap (λ l. joined l ++ runLine d (runAt pieces froms untils k))
-      (sym (map-twice (runAt pieces froms untils) (runLine d) (keep (λ k. eqb (getD desks (getD pieces k 0) 0) d) (below k))))
+      (sym (map-twice (runAt pieces froms untils) (runLine d)
+      (keep (λ k. eqb (getD desks (getD pieces k 0) 0) d) (below k))))
       ∙ ap (λ x. deskLinesIn k desks pieces froms untils d ++ x) (run-line d k ∙ sym (when-true _ _ _ e)))
       (λ e. ap (λ l. joined (map (runLine d) (map (runAt pieces froms untils) l)))
       (not-kept-more (λ k. eqb (getD desks (getD pieces k 0) 0) d) k e)
       ∙ sym (append-nil (deskLinesIn k desks pieces froms untils d))
       ∙ ap (λ x. deskLinesIn k desks pieces froms untils d ++ x) (sym (when-false _ _ _ e)))
     where
-      run-line : (d k : ℕ) → runLine d (runAt pieces froms untils k) ≡ runText d (getD pieces k 0) (getD froms k 0) (getD untils k 0)
+      run-line : (d k : ℕ) → runLine d (runAt pieces froms untils k)
+          ≡ runText d (getD pieces k 0) (getD froms k 0) (getD untils k 0)
       run-line d k = refl
 
   pub desks-more : (count d : ℕ) → runLinesIn (suc d) count desks pieces froms untils
@@ -96,7 +102,8 @@ module _ (desks pieces froms untils : List ℕ) where
     unfolding runLineIn
     own-line e p = rw (when-true _ (runText d (getD pieces k 0) (getD froms k 0) (getD untils k 0)) [] e) p
 
-    pub no-line : eqb (getD desks (getD pieces k 0) 0) d ≡ false → Puts b at (runLineIn desks pieces froms untils d k) b at
+    pub no-line : eqb (getD desks (getD pieces k 0) 0) d ≡ false
+        → Puts b at (runLineIn desks pieces froms untils d k) b at
     unfolding runLineIn
     no-line e = rw (when-false _ (runText d (getD pieces k 0) (getD froms k 0) (getD untils k 0)) [] e) (puts-none b at)
 
@@ -106,7 +113,8 @@ module _ (desks pieces froms untils : List ℕ) where
       ≤ length (runLinesIn n count desks pieces froms untils)
   desk-room count d n h = omega (
     arith,
-    grown (λ d. runLinesIn d count desks pieces froms untils) (deskLinesIn count desks pieces froms untils) (desks-more count) (suc d) n (omega arith),
+    grown (λ d. runLinesIn d count desks pieces froms untils) (deskLinesIn count desks pieces froms untils)
+        (desks-more count) (suc d) n (omega arith),
     ap length (desks-more count d),
     length-append (runLinesIn d count desks pieces froms untils) (deskLinesIn count desks pieces froms untils d),
   )

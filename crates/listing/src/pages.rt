@@ -1,5 +1,5 @@
-// The pages of a listing out of the tables of a finished plan: the lines of all pieces by number, the run lines by desk and
-// then by start. The log has the runs in the order in which they begin, so each desk's runs stand in it by start.
+// The pages of a listing out of the tables of a finished plan: the lines of all pieces by number, the run lines by desk
+// and then by start. The log has the runs in the order in which they begin, so each desk's runs stand in it by start.
 use lines::put_piece_line;
 use lines::put_run_line;
 ghost use Prim.Native.Nat.{ℕ, _+_, _*_, _≤_, _<_};

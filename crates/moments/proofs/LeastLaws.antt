@@ -1,5 +1,5 @@
--- The least of a moment and of what links leave: it is none above it, and nothing lies between; and what a link leaves is a
--- signed 32-bit number.
+-- The least of a moment and of what links leave: it is none above it, and nothing lies between; and what a link leaves
+-- is a signed 32-bit number.
 use Prim.Native.Nat.{ℕ, _+_, _≤_}
 use mathlib.Core.List.{List, [], _∷_, List·Memᴰ as Mem, List·Memᴰ·head as here, List·Memᴰ·tail as there}
 use mathlib.Core.Path.{refl}

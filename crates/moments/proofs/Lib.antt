@@ -1,3 +1,4 @@
 -- Laws of latest moments in tables.
+pub mod DelayLaws
 pub mod LeastLaws
 pub mod TimedLaws

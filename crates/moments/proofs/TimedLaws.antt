@@ -11,7 +11,7 @@ use lib.ListN.{length, getD, set}
 use lib.Seq.{getD-set-same, getD-set-other}
 use Rattle.rules.specs.Words.{when}
 use Rattle.rules.specs.Job.{Job, pieceCount, piece, desk}
-use Rattle.rules.specs.Moments.{delay, takesOff, latest}
+use Rattle.rules.specs.Moments.{takesOff, latest}
 use Rattle.rules.specs.Tables.{pieceIn, linkIn, noLink}
 use Rattle.rules.specs.declared.Link.{Link}
 use Rattle.laws.proofs.Delay.{takes-off-most}
@@ -25,6 +25,7 @@ use Rattle.links.specs.Queue.{Net}
 use Rattle.links.proofs.ChainLaws.{places-key, key-places}
 use Rattle.links.proofs.LinkLaws.{job-pieces, job-links, job-piece, job-link, job-ties}
 use Rattle.moments.specs.Moments.{takesOffIn, leftBy, leastLeft, ToTimeOne, TimedOne, Timeable, timedJob}
+use Rattle.moments.proofs.DelayLaws.{takes-off-is, delay-is}
 use Rattle.moments.proofs.LeastLaws.{left-start, left-each, left-most}
 
 module _ (n : ℕ) (desks durations dues afters handovers lasts priors order : List ℕ)
@@ -78,12 +79,14 @@ module _ (n : ℕ) (desks durations dues afters handovers lasts priors order : L
 
   off-is : (k i : ℕ) → k < T .links → getD befores k 0 ≡ i
       → takesOff J (linkAt k) ≡ takesOffIn desks durations afters handovers i k
-  unfolding takesOff delay takesOffIn linkIn pieceIn
+  unfolding takesOffIn linkIn pieceIn
   off-is k i l e =
       let after = piece-at (getD afters k 0) (ties .after-one k l) in
       let before = ap (desk J) e ∙ ap (λ p. p .desk) (piece-at i (omega (arith, e, ties .before-one k l))) in
-      ap₂ (λ (x y : ℕ). x + y) (ap (λ p. p .duration) after)
-      (ap₂ (λ (x y : ℕ). when (eqb x y) 0 (getD handovers k 0)) before (ap (λ p. p .desk) after))
+      takes-off-is J (linkAt k)
+      ∙ ap₂ (λ (x y : ℕ). x + y) (ap (λ p. p .duration) after)
+      (delay-is J (linkAt k)
+      ∙ ap₂ (λ (x y : ℕ). when (eqb x y) 0 (getD handovers k 0)) before (ap (λ p. p .desk) after))
 
   -- The pieces from place p of the order on have their latest moments.
   abbrev pub Done : ℕ → List ℤ → Type 0
@@ -126,7 +129,8 @@ module _ (n : ℕ) (desks durations dues afters handovers lasts priors order : L
 
     -- What a link from it leaves, in the words of the rules.
     left-is : (k : ℕ) → k < T .links → getD befores k 0 ≡ i
-        → leftBy desks durations afters handovers moments i k ≡ (latest J (getD afters k 0) -ℤ pos (takesOff J (linkAt k)))
+        → leftBy desks durations afters handovers moments i k
+        ≡ (latest J (getD afters k 0) -ℤ pos (takesOff J (linkAt k)))
     unfolding leftBy
     left-is k l e = rw (follower k l e, off-is k i l e)
 

@@ -1,5 +1,5 @@
--- Latest moments in a table of signed numbers, piece by piece: the least of a piece's own due and of what the links from it
--- leave, where the moments of the pieces after it are known.
+-- Latest moments in a table of signed numbers, piece by piece: the least of a piece's own due and of what the links
+-- from it leave, where the moments of the pieces after it are known.
 use Prim.Native.Nat.{ℕ, _+_, _≤_, _<_}
 use mathlib.Core.List.{List, [], _∷_}
 use mathlib.Core.Option.{none}
@@ -43,7 +43,8 @@ pub record ToLeave (i k : ℕ) (desks durations afters handovers : List ℕ) (mo
   pub near : natAbs (getD moments (getD afters k 0) (pos 0)) ≤ 500000
 
 -- Piece i has its turn, whatever its chains were made of: every link from it can be looked at.
-pub record ToTimeOne (i : ℕ) (desks durations dues afters handovers lasts priors : List ℕ) (moments : List ℤ) : Type 0 where
+pub record ToTimeOne (i : ℕ) (desks durations dues afters handovers lasts priors : List ℕ)
+    (moments : List ℤ) : Type 0 where
   pub net : Net afters lasts priors
   pub one : i < net .pieces
   pub due-most : getD dues i 0 ≤ 40000

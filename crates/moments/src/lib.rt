@@ -1,5 +1,5 @@
-// Latest moments of all pieces, as signed numbers: from the last pieces back, in the order that the ring check found. When
-// a piece has its turn, the moments of all pieces after it are known, so each link is looked at once.
+// Latest moments of all pieces, as signed numbers: from the last pieces back, in the order that the ring check found.
+// When a piece has its turn, the moments of all pieces after it are known, so each link is looked at once.
 use links::delay::delay;
 ghost use Prim.Native.Nat.{_<_, _≤_};
 ghost use mathlib.Core.Path.{_≡_};
@@ -7,7 +7,6 @@ ghost use lib.IntN.{pos, _-ℤ_};
 ghost use mir.Syntax.{w32};
 ghost use mir.Val.{SFits};
 ghost use lib.ListN.{getD};
-ghost use Rattle.rules.specs.Words.{lesserZ};
 ghost use Rattle.moments.specs.Moments.{takesOffIn, leftBy, ToLeave, ToTimeOne, TimedOne, ToTime, Timed};
 
 // What link k from piece i takes off: the follower's duration, and the delay of the link.
@@ -49,19 +48,14 @@ fn left_by(
     moments: &[i32; 256],
 ) -> i32
     requires { ⌜ ToLeave i k (now desks) (now durations) (now afters) (now handovers) (now moments) ⌝ }
-    ensures { λ r. ⌜ r ≡ leftBy (now (desks .entry)) (now (durations .entry)) (now (afters .entry)) (now (handovers .entry))
+    ensures { λ r. ⌜ r ≡ leftBy (now (desks .entry)) (now (durations .entry)) (now (afters .entry))
+        (now (handovers .entry))
         (now (moments .entry)) i k ⌝ }
 {
     less(
         moments[afters[k] as usize],
         takes_off(i, k, desks, durations, afters, handovers),
     )
-}
-
-fn lesser(a: i32, b: i32) -> i32
-    ensures { λ r. ⌜ r ≡ lesserZ a b ⌝ }
-{
-    if b < a { b } else { a }
 }
 
 // The latest moment of piece i, where those of the pieces after it are known: the least of its own due and of what the
@@ -77,7 +71,8 @@ fn piece_moment(
     priors: &[u16; 1024],
     moments: &[i32; 256],
 ) -> i32
-    requires { ⌜ ToTimeOne i (now desks) (now durations) (now dues) (now afters) (now handovers) (now lasts) (now priors)
+    requires { ⌜ ToTimeOne i (now desks) (now durations) (now dues) (now afters) (now handovers) (now lasts)
+        (now priors)
         (now moments) ⌝ }
     ensures { λ r. ⌜ TimedOne i (now (desks .entry)) (now (durations .entry)) (now (dues .entry)) (now (afters .entry))
         (now (handovers .entry)) (now (lasts .entry)) (now (priors .entry)) (now (moments .entry)) r ⌝ }
@@ -86,7 +81,7 @@ fn piece_moment(
     let mut at = lasts[i] as usize;
     while at != 0 {
         let k = at - 1;
-        least = lesser(
+        least = numbers::signed::lesser(
             least,
             left_by(i, k, desks, durations, afters, handovers, moments),
         );
@@ -108,10 +103,13 @@ pub fn latest_moments(
     order: &[u16; 256],
     moments: &mut [i32; 256],
 )
-    requires { ⌜ ToTime pieces (now desks) (now durations) (now dues) (now afters) (now handovers) (now lasts) (now priors)
+    requires { ⌜ ToTime pieces (now desks) (now durations) (now dues) (now afters) (now handovers) (now lasts)
+        (now priors)
         (now order) (now moments) ⌝ }
-    ensures { λ r. ⌜ Timed pieces (now (desks .entry)) (now (durations .entry)) (now (dues .entry)) (now (afters .entry))
-        (now (handovers .entry)) (now (lasts .entry)) (now (priors .entry)) (now (order .entry)) (now (moments .exit)) ⌝ }
+    ensures { λ r. ⌜ Timed pieces (now (desks .entry)) (now (durations .entry)) (now (dues .entry))
+        (now (afters .entry))
+        (now (handovers .entry)) (now (lasts .entry)) (now (priors .entry)) (now (order .entry))
+        (now (moments .exit)) ⌝ }
 {
     let mut p = pieces;
     while 0 < p {

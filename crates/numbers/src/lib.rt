@@ -1,4 +1,6 @@
 // A few functions on plain numbers that more than one station uses. None of them asks anything of its caller.
+pub mod signed;
+
 ghost use mathlib.Core.Path.{_≡_};
 ghost use Prim.Native.Nat.{_-_, _<_, min, max};
 

@@ -37,8 +37,10 @@ module _ (count : ℕ) (desks pieces froms untils : List ℕ) (d : ℕ) (b : Lis
     onward = e;
   }
 
-  pub along-here : (buf : List ℕ) (next run k : ℕ) → Along buf next run → run ≡ k + 1 → Here buf next k
-  along-here buf next run k a e =
+module _ {count : ℕ} {desks pieces froms untils : List ℕ} {d : ℕ} {b : List ℕ} {at : ℕ} {buf : List ℕ} {next : ℕ} where
+  pub along-here : {run : ℕ} (k : ℕ) → Along count desks pieces froms untils d b at buf next run → run ≡ k + 1
+      → Here count desks pieces froms untils d b at buf next k
+  along-here k a e =
       let on = to-the-next desks pieces d (λ j. Logged desks pieces froms untils d b at j buf next)
       (λ j t l. one-passed desks pieces froms untils d b at j buf next l t) (count - a .done) (a .done) k
       (sym (a .onward) ∙ e) (a .logged) in
@@ -50,30 +52,31 @@ module _ (count : ℕ) (desks pieces froms untils : List ℕ) (d : ℕ) (b : Lis
         room = omega (arith, run-room desks pieces froms untils d k count here (on .own), on .holds .past);
       }
 
-  pub along-on : (buf : List ℕ) (next k : ℕ) (first later buf′ : List ℕ)
-      → RunsChained desks pieces count 0 first later → Here buf next k
-      → buf′ ≡ sets buf next (planRecord 18 d (getD pieces k 0) (word (getD froms k 0)) (word (getD untils k 0)) (word 0))
-      → Along buf′ (next + 16) (getD later k 0)
-  along-on buf next k first later buf′ chained h put = record {
-    done = k + 1;
-    few = omega (arith, h .place);
-    logged = one-logged desks pieces froms untils d b at k buf buf′ next (h .logged) (h .own) put;
-    onward = chained .goes-on k (omega arith) (h .place)
-        ∙ ap (λ x. nextRun desks pieces x (count - (k + 1)) (k + 1)) (eqb-true (deskAt desks pieces k) d (h .own));
-  }
-
-  pub along-end : (buf : List ℕ) (next run : ℕ) → Along buf next run → run ≡ 0 →
-      Logged desks pieces froms untils d b at count buf next
-  along-end buf next run a e =
+  pub along-end : {run : ℕ} → Along count desks pieces froms untils d b at buf next run → run ≡ 0
+      → Logged desks pieces froms untils d b at count buf next
+  along-end a e =
       let q : a .done + (count - a .done) ≡ count = omega (arith, a .few) in
       subst (λ j. Logged desks pieces froms untils d b at j buf next) q
       (to-the-end desks pieces d (λ j. Logged desks pieces froms untils d b at j buf next)
       (λ j t l. one-passed desks pieces froms untils d b at j buf next l t) (count - a .done) (a .done)
       (sym (a .onward) ∙ e) (a .logged))
 
-  pub along-less : (buf : List ℕ) (next run k : ℕ) (first later : List ℕ)
-      → RunsChained desks pieces count 0 first later → Here buf next k → run ≡ k + 1
-      → ahead count (getD later k 0) < ahead count run
-  along-less buf next run k first later chained h e =
-      ahead-less desks pieces count (deskAt desks pieces k) (count - (k + 1)) k run (getD later k 0) (h .place) e
-      (chained .goes-on k (omega arith) (h .place))
+  -- Past the run that the chain has come to.
+  module _ {k : ℕ} {first later : List ℕ} (chained : RunsChained desks pieces count 0 first later)
+      (h : Here count desks pieces froms untils d b at buf next k) where
+    pub along-on : (buf′ : List ℕ)
+        → buf′ ≡ sets buf next (planRecord 18 d (getD pieces k 0) (word (getD froms k 0)) (word (getD untils k 0))
+        (word 0))
+        → Along count desks pieces froms untils d b at buf′ (next + 16) (getD later k 0)
+    along-on buf′ put = record {
+      done = k + 1;
+      few = omega (arith, h .place);
+      logged = one-logged desks pieces froms untils d b at k buf buf′ next (h .logged) (h .own) put;
+      onward = chained .goes-on k (omega arith) (h .place)
+          ∙ ap (λ x. nextRun desks pieces x (count - (k + 1)) (k + 1)) (eqb-true (deskAt desks pieces k) d (h .own));
+    }
+
+    pub along-less : (run : ℕ) → run ≡ k + 1 → ahead count (getD later k 0) < ahead count run
+    along-less run e =
+        ahead-less desks pieces count (deskAt desks pieces k) (count - (k + 1)) k run (getD later k 0) (h .place) e
+        (chained .goes-on k (omega arith) (h .place))

@@ -58,7 +58,8 @@ module _ (desks pieces : List ℕ) where
             (λ e. getD-set-other later k j (getD first own 0) 0 (λ q. absurd (omega (arith, ltb-true k j e, q)))
             ∙ h .goes-on j (omega (arith, ltb-true k j e)) b)
             (λ e. let q : k ≡ j = omega (arith, ltb-false k j e) in
-            rw (← q) (getD-set-same later k (getD first own 0) 0 (omega (arith, h .later-sized)) ∙ h .begins own small));
+            rw (← q) (getD-set-same later k (getD first own 0) 0 (omega (arith, h .later-sized))
+            ∙ h .begins own small));
       }
 
   -- A walk along the chain of desk d. What holds at a place of the log goes on holding past the runs of other desks.
@@ -109,8 +110,8 @@ module _ (desks pieces : List ℕ) where
       by-test (eqb (deskAt desks pieces k) d) (λ e. rw (e, when) (omega arith)) (λ e. rw (e, when) (omega arith))
 
   -- What is left falls along the chain.
-  pub ahead-less : (count d left k run next : ℕ) → k < count → run ≡ k + 1 → next ≡ nextRun desks pieces d left (k + 1) →
-      ahead count next < ahead count run
+  pub ahead-less : (count d left k run next : ℕ) → k < count → run ≡ k + 1
+      → next ≡ nextRun desks pieces d left (k + 1) → ahead count next < ahead count run
   ahead-less count d left k run zero h e n =
       let q : run ≡ suc k = omega arith in rw q (omega arith)
   ahead-less count d left k run (suc j) h e n =

@@ -1,6 +1,6 @@
 -- The figures grow with the pieces: with one piece more, the largest finish is the greater of what it was and that
 -- piece's, and so is the worst lateness.
-use Prim.Native.Nat.{ℕ, zero, suc, _+_, _≤_, _<_}
+use Prim.Native.Nat.{ℕ, zero, suc, _+_, _≤_, _<_, max}
 use mathlib.Core.List.{map}
 use mathlib.Core.Path.{_≡_, refl, ap}
 use native.Mathlib.Nat.{le-antisymm}
@@ -12,7 +12,7 @@ use lib.IntN.{ℤ, pos, negsuc}
 use lib.Signed.{mag}
 use mir.Syntax.{w32}
 use mir.Val.{SFits}
-use Rattle.rules.specs.Words.{greater, greatest, greaterZ, greatestZ, worstOf, row, below}
+use Rattle.rules.specs.Words.{when, greater, greatest, greaterZ, greatestZ, worstOf, row, below}
 use Rattle.laws.proofs.Words.{by-test, mem-below, below-mem, greater-left, greater-right, greater-least}
 use Rattle.laws.proofs.Words.{greatest-of, greatest-within}
 use Rattle.laws.proofs.Signed.{_≼_, same, greaterZ-left, greaterZ-right, greaterZ-least}
@@ -20,6 +20,13 @@ use Rattle.laws.proofs.Signed.{greatestZ-start, greatestZ-mem, greatestZ-least}
 use Rattle.laws.proofs.Words.{mem-map, mem-row, row-mem}
 use Rattle.laws.proofs.Joined.{mem-of-map}
 use Rattle.output.specs.Late.{Bounded, latenessOf}
+
+-- The greater of two, as the page and as the code has it.
+pub max-is : (a b : ℕ) → max a b ≡ greater a b
+unfolding greater
+max-is a b =
+    by-test (ltb a b) (λ e. rw (e, when) (omega (arith, ltb-true a b e)))
+    (λ e. rw (e, when) (omega (arith, ltb-false a b e)))
 
 pub largest-more : (f : ℕ → ℕ) (k : ℕ) → greater (greatest 0 (map f (below k))) (f k)
     ≡ greatest 0 (map f (below (k + 1)))

@@ -1,8 +1,10 @@
--- Records written one behind the other: each stands 16 bytes behind the one before, and a record more is one store more.
+-- Records written one behind the other: each stands 16 bytes behind the one before, and a record more is one store
+-- more.
 use Prim.Native.Nat.{ℕ, zero, suc, _+_, _-_, _*_, _≤_, _<_}
 use mathlib.Core.Bool.{true, false}
 use mathlib.Core.List.{List, _++_, map}
 use mathlib.Core.Path.{_≡_, refl, sym, ap, _∙_}
+use native.Mathlib.Nat.{zero-add}
 use native.Mathlib.Omega.{arith}
 use native.Mathlib.Numerals.{add-one}
 use lib.IntN.{ℤ, pos}
@@ -13,9 +15,10 @@ use Rattle.rules.specs.Words.{keep, below, joined}
 use Rattle.rules.specs.Bytes.{word, signedWord, planRecord, runRecord, lastWord}
 use Rattle.steps.specs.Log.{runAt, loggedRuns}
 use Rattle.laws.proofs.Words.{by-test, length-below}
-use Rattle.laws.proofs.Joined.{joined-more, kept-more, not-kept-more, map-twice, mem-of-map}
+use Rattle.laws.proofs.Joined.{kept-more, not-kept-more, map-twice, mem-of-map}
 use Rattle.laws.proofs.Bytes.{word-sized, signed-sized, record-sized, run-sized, records-sized}
 use Rattle.records.proofs.Stores.{sets-on}
+use Rattle.records.proofs.InARow.{put-more}
 use Rattle.output.specs.Written.{resultIn, resultsIn, deskRunsIn, Logged}
 
 module _ (desks starts finishes : List ℕ) (latests : List ℤ) where
@@ -41,31 +44,20 @@ module _ (desks starts finishes : List ℕ) (latests : List ℤ) where
       rw (w .2) (result-length (w .0)))
       ∙ ap (λ x. 16 * x) (length-map (below n) (resultIn desks starts finishes latests) ∙ length-below n)
 
-  pub results-more : (b : List ℕ) (i : ℕ)
-      → sets (sets b 0 (resultsIn i desks starts finishes latests)) (16 * i) (resultIn desks starts finishes latests i)
-      ≡ sets b 0 (resultsIn (i + 1) desks starts finishes latests)
-  unfolding resultsIn
-  results-more b i =
-      let q : 16 * i ≡ 0 + length (resultsIn i desks starts finishes latests) = omega (arith, results-length i) in
-      ap (λ x. sets (sets b 0 (resultsIn i desks starts finishes latests)) x (resultIn desks starts finishes latests i)) q
-      ∙ sets-on b 0 (resultsIn i desks starts finishes latests) (resultIn desks starts finishes latests i)
-      ∙ ap (sets b 0) (sym (joined-more (resultIn desks starts finishes latests) i)
-      ∙ ap (λ k. resultsIn k desks starts finishes latests) (sym (add-one i)))
-
   -- One record more, as `put_record` stores it.
   pub results-step : (b buf buf′ : List ℕ) (i w : ℕ) → buf ≡ sets b 0 (resultsIn i desks starts finishes latests)
       → word w ≡ signedWord (getD latests i (pos 0))
       → buf′ ≡ sets buf (16 * i)
       (planRecord 17 (getD desks i 0) i (word (getD starts i 0)) (word (getD finishes i 0)) (word w))
       → (length buf′ ≡ length buf) × (buf′ ≡ sets b 0 (resultsIn (i + 1) desks starts finishes latests))
-  results-step b buf buf′ i w before signed put = (
-    ap length put ∙ length-sets buf (16 * i)
-        (planRecord 17 (getD desks i 0) i (word (getD starts i 0)) (word (getD finishes i 0)) (word w)),
-    put ∙ ap (λ x. sets buf (16 * i)
-        (planRecord 17 (getD desks i 0) i (word (getD starts i 0)) (word (getD finishes i 0)) x)) signed
-        ∙ ap (sets buf (16 * i)) (sym (result-is i))
-        ∙ ap (λ x. sets x (16 * i) (resultIn desks starts finishes latests i)) before ∙ results-more b i,
-  )
+  unfolding resultsIn
+  results-step b buf buf′ i w before signed put =
+      put-more (resultIn desks starts finishes latests) result-length b 0 buf buf′ i before
+      (put
+      ∙ ap (λ x. sets buf (16 * i)
+      (planRecord 17 (getD desks i 0) i (word (getD starts i 0)) (word (getD finishes i 0)) x)) signed
+      ∙ ap (sets buf (16 * i)) (sym (result-is i))
+      ∙ ap (λ k. sets buf k (resultIn desks starts finishes latests i)) (sym (zero-add (16 * i))))
 
 module _ (desks pieces froms untils : List ℕ) (d : ℕ) where
   -- The places of the desk's runs among the first n of the log.
@@ -161,7 +153,8 @@ module _ (desks pieces froms untils : List ℕ) (d : ℕ) where
     );
   })
 
-  pub one-passed : (b : List ℕ) (at k : ℕ) (buf : List ℕ) (next : ℕ) → Logged desks pieces froms untils d b at k buf next
+  pub one-passed : (b : List ℕ) (at k : ℕ) (buf : List ℕ) (next : ℕ)
+      → Logged desks pieces froms untils d b at k buf next
       → eqb (getD desks (getD pieces k 0) 0) d ≡ false → Logged desks pieces froms untils d b at (k + 1) buf next
   one-passed b at k buf next l e = rw add-one (record {
     same = l .same;

@@ -4,7 +4,7 @@ ghost use mathlib.Core.List.{map};
 ghost use Prim.Native.Nat.{ℕ, _≤_, _<_};
 ghost use lib.IntN.{pos};
 ghost use lib.ListN.{getD};
-ghost use Rattle.rules.specs.Words.{greater, greatest, greaterZ, worstOf, below};
+ghost use Rattle.rules.specs.Words.{greatest, worstOf, below};
 ghost use Rattle.output.specs.Late.{Bounded, latenessOf, latenessIn};
 
 pub fn largest_finish(n: usize, finishes: &[u32; 256]) -> u32
@@ -14,16 +14,10 @@ pub fn largest_finish(n: usize, finishes: &[u32; 256]) -> u32
     let mut end = 0;
     let mut i = 0;
     while i < n {
-        end = larger(end, finishes[i]);
+        end = numbers::greater(end, finishes[i]);
         i += 1;
     }
     end
-}
-
-fn larger(a: u32, b: u32) -> u32
-    ensures { λ r. ⌜ r ≡ greater a b ⌝ }
-{
-    if a < b { b } else { a }
 }
 
 // The lateness of one piece: finish less latest moment, below zero where it is early.
@@ -32,12 +26,6 @@ fn lateness(finish: u32, latest: i32) -> i32
     ensures { λ r. ⌜ r ≡ latenessOf finish latest ⌝ }
 {
     finish as i32 - latest
-}
-
-fn later(a: i32, b: i32) -> i32
-    ensures { λ r. ⌜ r ≡ greaterZ a b ⌝ }
-{
-    if a < b { b } else { a }
 }
 
 // The worst (greatest) lateness; 0 with no pieces.
@@ -51,7 +39,7 @@ pub fn worst_lateness(n: usize, finishes: &[u32; 256], latests: &[i32; 256]) -> 
     let mut worst = lateness(finishes[0], latests[0]);
     let mut i = 1;
     while i < n {
-        worst = later(worst, lateness(finishes[i], latests[i]));
+        worst = numbers::signed::greater(worst, lateness(finishes[i], latests[i]));
         i += 1;
     }
     worst

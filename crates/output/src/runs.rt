@@ -16,7 +16,8 @@ fn place_of(desk: u8) -> usize
 }
 
 // The runs of each desk, chained from the first to the last: `first[d]` is one more than the place in the log of the
-// first run of desk d, and `later[k]` one more than the place of the next run of the same desk as run k; 0 ends a chain.
+// first run of desk d, and `later[k]` one more than the place of the next run of the same desk as run k; 0 ends a
+// chain.
 fn chain_runs(
     count: usize,
     desks: &[u8; 256],

@@ -1,5 +1,5 @@
--- The pieces and links that the tables hold, law by law: how many they are, that entries behind the counts are no part of
--- them, and what one entry more adds.
+-- The pieces and links that the tables hold, law by law: how many they are, that entries behind the counts are no part
+-- of them, and what one entry more adds.
 use Prim.Native.Nat.{ℕ, _+_, _≤_, _<_}
 use mathlib.Core.List.{List, [], _∷_, _++_, map, map-append}
 use mathlib.Core.Path.{_≡_, ap, ap₂, _∙_}

@@ -1,6 +1,6 @@
 // A whole job file read into lent tables, or the first refusal met: one record at a time, each into the tables of its
-// kind, until a refusal or the end of the file. The reader of one record is asked at one place only, so that whatever it
-// judges is compiled into the loop.
+// kind, until a refusal or the end of the file. The reader of one record is asked at one place only, so that whatever
+// it judges is compiled into the loop.
 use cursor::reading::item;
 use rules::Item;
 use rules::Link;

@@ -8,7 +8,8 @@ use lib.ListN.{length}
 use Rattle.rules.specs.File.{wholeRecords}
 use Rattle.rules.specs.DeskRuns.{pastLastRun, stretchFrom, stretchEnd, stretch}
 
--- One past the last record of the stretch that begins at record `first`: it lies between that and the last whole record.
+-- One past the last record of the stretch that begins at record `first`: it lies between that and the last whole
+-- record.
 pub record PastLast (records : List ℕ) (desk first past : ℕ) : Type 0 where
   pub is : past ≡ pastLastRun records desk first
   pub not-before : first ≤ past

@@ -1,5 +1,5 @@
-// Words and numbers of a line, each put at a place of the lent text; the place behind it is handed back. A caller keeps room
-// for the longest: a number has at most twenty digits and a sign.
+// Words and numbers of a line, each put at a place of the lent text; the place behind it is handed back. A caller keeps
+// room for the longest: a number has at most twenty digits and a sign.
 ghost use Prim.Native.Nat.{_+_, _≤_, _<_};
 ghost use lib.ListN.{length};
 ghost use Rattle.rules.specs.Listing.{digitsWithin, digits, signedDigits};

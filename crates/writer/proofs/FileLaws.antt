@@ -11,7 +11,8 @@ use Rattle.rules.specs.Job.{Job, Outcome, refused, accepted}
 use Rattle.rules.specs.Judgement.{thenJudge, refuse}
 use Rattle.rules.specs.Writing.{pieceRecord, linkRecord, fileOf}
 use Rattle.rules.specs.Plan.{atFront}
-use Rattle.rules.specs.Form.{pieceRow, linkRow, formJob, formOutcome, unlessNoRoom, writeOutcome, writeAnswerOf, writeBufferOf, writeAnswer, writeBuffer}
+use Rattle.rules.specs.Form.{pieceRow, linkRow, formJob, formOutcome, unlessNoRoom, writeOutcome, writeAnswerOf}
+use Rattle.rules.specs.Form.{writeBufferOf, writeAnswer, writeBuffer}
 use Rattle.rules.specs.declared.Refusal.{Refusal}
 use Rattle.rules.specs.declared.WriteAnswer.{WriteAnswer}
 use Rattle.laws.proofs.Words.{length-below, when-true, when-false}
@@ -33,7 +34,8 @@ module _ (pieces links buffer : List ℕ) where
   unfolding writeAnswer writeBuffer
   by-outcome o e = record { answered = ap writeAnswerOf (sym e); left-there = ap (λ x. writeBufferOf x buffer) (sym e) }
 
-  pub form-refused : (r : Refusal) (answer : WriteAnswer) → answer ≡ refusedAnswer r → formOutcome pieces links ≡ refused r
+  pub form-refused : (r : Refusal) (answer : WriteAnswer) → answer ≡ refusedAnswer r
+      → formOutcome pieces links ≡ refused r
       → WritePromise pieces links buffer answer buffer
   unfolding writeOutcome thenJudge writeAnswerOf writeBufferOf
   form-refused r answer e h = rw e (by-outcome (refused r) (ap (λ o. thenJudge o (unlessNoRoom (length buffer))) h))
@@ -51,7 +53,8 @@ module _ (pieces links buffer : List ℕ) where
 
   module _ (fine : formOutcome pieces links ≡ accepted F) where
     pub no-room : (answer : WriteAnswer) → answer ≡ refusedAnswer (record { number = 14; place = 0 })
-        → length buffer < 16 * (length pieces / 4) + 16 * (length links / 3) → WritePromise pieces links buffer answer buffer
+        → length buffer < 16 * (length pieces / 4) + 16 * (length links / 3)
+        → WritePromise pieces links buffer answer buffer
     unfolding writeOutcome thenJudge unlessNoRoom writeAnswerOf writeBufferOf
     no-room answer e short = rw e (by-outcome (refuse 14 0)
         (ap (λ o. thenJudge o (unlessNoRoom (length buffer))) fine
@@ -68,7 +71,8 @@ module _ (pieces links buffer : List ℕ) where
     piece-bytes-long : length (pieceBytes pieces (length pieces / 4)) ≡ 16 * (length pieces / 4)
     unfolding pieceBytes
     piece-bytes-long =
-        records-long (λ i. pieceRecord (pieceRow pieces i)) (λ i. piece-sized (pieceRow pieces i)) (below (length pieces / 4))
+        records-long (λ i. pieceRecord (pieceRow pieces i)) (λ i. piece-sized (pieceRow pieces i))
+        (below (length pieces / 4))
         ∙ ap (λ k. 16 * k) (length-below (length pieces / 4))
 
     pub written : (answer : WriteAnswer) (first last : List ℕ)
@@ -84,7 +88,8 @@ module _ (pieces links buffer : List ℕ) where
         let z : 0 + length (fileOf F) ≡ length (fileOf F) = omega arith in
         let stored : last ≡ fileOf F ++ drop (length (fileOf F)) buffer =
         q ∙ ap (λ l. sets l (16 * (length pieces / 4)) (linkBytes links (length links / 3))) p
-        ∙ ap (λ k. sets (sets buffer 0 (pieceBytes pieces (length pieces / 4))) k (linkBytes links (length links / 3))) behind
+        ∙ ap (λ k. sets (sets buffer 0 (pieceBytes pieces (length pieces / 4))) k (linkBytes links (length links / 3)))
+        behind
         ∙ sets-on buffer 0 (pieceBytes pieces (length pieces / 4)) (linkBytes links (length links / 3))
         ∙ ap (sets buffer 0) file-bytes ∙ sets-eq (fileOf F) buffer 0 (omega (arith, form-long))
         ∙ ap (λ k. fileOf F ++ drop k buffer) z in

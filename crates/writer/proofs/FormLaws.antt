@@ -1,5 +1,5 @@
--- A form judged whole: its pieces, its links behind them, then a row cut short; and that what is left is sound, so that its
--- values have room in their fields.
+-- A form judged whole: its pieces, its links behind them, then a row cut short; and that what is left is sound, so that
+-- its values have room in their fields.
 use Prim.Native.Nat.{ℕ, _+_, _/_, _%_, _≤_}
 use mathlib.Core.Bool.{true, false}
 use mathlib.Core.List.{List, [], _++_, map, append-nil}
@@ -93,7 +93,8 @@ module _ (pieces links : List ℕ) where
         code (refused r) = 1
         code (accepted J) = 0
 
-        go : (o : Outcome) → takeAll (offers F) 0 emptyJob ≡ o → thenJudge o (unlessCut pieces links) ≡ accepted K → Sound F
+        go : (o : Outcome) → takeAll (offers F) 0 emptyJob ≡ o → thenJudge o (unlessCut pieces links) ≡ accepted K
+            → Sound F
         go (refused r) e h = let z : _≡_ {A = ℕ} 1 0 = ap code h in absurd (omega arith)
         go (accepted J) e h = taken-sound F J e
 
@@ -107,7 +108,8 @@ module _ (pieces links : List ℕ) where
     pub pieces-held : PieceRowsHeld pieces
     unfolding formJob
     pieces-held i h =
-        sound-held F form-sound .pieces-held (pieceRow pieces i) (mem-map (pieceRow pieces) (below n) i (below-mem n i h))
+        sound-held F form-sound .pieces-held (pieceRow pieces i)
+        (mem-map (pieceRow pieces) (below n) i (below-mem n i h))
 
     pub links-held : LinkRowsHeld links
     unfolding formJob

@@ -48,7 +48,8 @@ fn judge_form(pieces: &[u32], links: &[u32]) -> Refusal
 
 // THE WRITER: takes every form and every lent buffer, and answers or refuses by a number on the list.
 pub fn write_file(pieces: &[u32], links: &[u32], buffer: &mut [u8]) -> WriteAnswer
-    ensures { λ r. ⌜ WritePromise (now (pieces .entry)) (now (links .entry)) (now (buffer .entry)) r (now (buffer .exit)) ⌝ }
+    ensures { λ r. ⌜ WritePromise (now (pieces .entry)) (now (links .entry)) (now (buffer .entry)) r
+        (now (buffer .exit)) ⌝ }
 {
     let fault = judge_form(pieces, links);
     if fault.number != 0 {

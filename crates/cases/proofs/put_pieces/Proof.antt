@@ -1,5 +1,5 @@
 -- `put_pieces` is safe and ends: the pieces put so far lie within the file.
-use Prim.Native.Nat.{_-_, _≤_}
+use Prim.Native.Nat.{_+_, _*_, _-_, _≤_}
 use mathlib.Core.Path.{_≡_, refl, _∙_}
 use native.Mathlib.Omega.{arith}
 use lib.ListN.{length}
@@ -15,11 +15,15 @@ abbrev μ-loop : tie.MeasureT-loop
 loop-holds : tie.Need-loop-holds Inv-loop μ-loop
 loop-holds c = (omega arith, refl)
 
+-- The next record lies within the file.
+room : (c : tie.In-loop Inv-loop μ-loop) → 16 * c .before .loop .k + 16 ≤ length (c .before .loop .file)
+room c = omega (arith, c .before .loop .inv .0, c .before .loop .inv .1, c .before .before .before .pre)
+
 mul-put-record : tie.Need-mul-put-record Inv-loop μ-loop
-mul-put-record c = omega (arith, c .before .before .loop .inv .0, c .before .before .loop .inv .1, c .before .before .before .before .pre)
+mul-put-record c = omega (arith, room (c .before))
 
 put-record-requires : tie.Need-put-record-requires Inv-loop μ-loop
-put-record-requires c κs = omega (arith, c .before .before .loop .inv .0, c .before .before .loop .inv .1, c .before .before .before .before .pre)
+put-record-requires c κs = omega (arith, room (c .before))
 
 add-k : tie.Need-add-k Inv-loop μ-loop
 add-k c = omega arith
@@ -28,7 +32,9 @@ loop-less : tie.Need-loop-less Inv-loop μ-loop
 loop-less c = omega arith
 
 loop-again : tie.Need-loop-again Inv-loop μ-loop
-loop-again c = (omega arith, c .before .before .put-record .kept .0 ∙ c .before .before .before .before .before .loop .inv .1)
+loop-again c =
+    let put = c .before .before in
+    (omega arith, put .put-record .kept .0 ∙ put .before .before .before .loop .inv .1)
 
 same-length : tie.Need-same-length Inv-loop μ-loop
 same-length c = c .before .loop .inv .1

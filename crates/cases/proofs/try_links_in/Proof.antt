@@ -26,10 +26,19 @@ slice-reshare-prefix-plan c = search needs
 
 slice-aggregate-plan : tie.Need-slice-aggregate-plan
 slice-aggregate-plan c =
-    let same = c .before .before .before .put-links .kept .0 in
-    let first = c .before .before .before .before .before .before .before .put-record2 .kept .0 in
-    let begun = c .before .before .before .before .before .before .before .before .before .before .before .put-record .kept .0 in
-    sym (length-take-le _ (c .before .before .before .put-links .last .0) (omega (arith, same, first, begun, c .before .before .before .before .before .before .before .before .before .before .before .before .before .before .before .pre .0, c .before .before .before .before .before .before .before .before .before .before .before .before .before .before .before .pre .1)))
+    let links = c .before .before .before in
+    let second = links .before .before .before .before in
+    let first = second .before .before .before .before in
+    let start = first .before .before .before .before in
+    sym (length-take-le _ (links .put-links .last .0)
+    (omega (
+      arith,
+      links .put-links .kept .0,
+      second .put-record2 .kept .0,
+      first .put-record .kept .0,
+      start .pre .0,
+      start .pre .1,
+    )))
 
 slice-aggregate-plan-2 : tie.Need-slice-aggregate-plan-2
 slice-aggregate-plan-2 c = search needs

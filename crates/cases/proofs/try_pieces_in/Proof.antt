@@ -17,14 +17,18 @@ slice-reshare-prefix-plan c = search needs
 
 slice-aggregate-plan : tie.Need-slice-aggregate-plan
 slice-aggregate-plan c =
-    sym (length-take-le _ (c .before .before .before .put-pieces .last .0) (omega (arith, c .before .before .before .put-pieces .kept .0, c .before .before .before .before .before .before .before .before .pre .0, c .before .before .before .before .before .before .before .before .pre .1)))
+    let put = c .before .before .before in
+    let start = put .before .before .before .before .before in
+    sym (length-take-le _ (put .put-pieces .last .0)
+    (omega (arith, put .put-pieces .kept .0, start .pre .0, start .pre .1)))
 
 slice-relend-prefix-plan : tie.Need-slice-relend-prefix-plan
 slice-relend-prefix-plan c = search needs
 
 slice-aggregate-plan-2 : tie.Need-slice-aggregate-plan-2
 slice-aggregate-plan-2 c =
-    sym (length-take-le _ (c .before .before .before .before .before .before .before .before .before .args .buffer .now) (c .before .before .before .before .before .before .before .before .before .pre .2))
+    let start = c .before .before .before .before .before .before .before .before .before in
+    sym (length-take-le _ (start .args .buffer .now) (start .pre .2))
 
 plan-requires : tie.Need-plan-requires
 plan-requires c κs = search needs

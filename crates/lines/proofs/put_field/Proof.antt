@@ -11,15 +11,21 @@ put-bytes-requires c κs = omega (arith, c .before .before .before .pre .room, c
 
 put-number-requires : tie.Need-put-number-requires
 put-number-requires c κs =
-    let put = c .before .before .before .put-bytes .ensures in omega (arith, puts-same put, put .past, c .before .before .before .before .before .before .before .pre .room, c .before .before .before .before .before .before .before .pre .short)
+    let word = c .before .before .before in
+    let fits = word .before .before .before .before .pre in
+    let put = word .put-bytes .ensures in
+    omega (arith, puts-same put, put .past, fits .room, fits .short)
 
 same-length : tie.Need-same-length
 same-length c = search needs
 
 returns : tie.Need-returns
 returns c =
-    let a = c .before .before .before .before .before .before .before .before .before .before .args in
-    number-field (a .word .now) (c .before .before .before .before .before .before .before .before .before .before .pre .short) (c .before .before .before .before .before .before .put-bytes .ensures) (a .n) (c .before .before .put-number .ensures)
+    let word = c .before .before .before .before .before .before in
+    let start = word .before .before .before .before in
+    let a = start .args in
+    number-field (a .word .now) (start .pre .short) (word .put-bytes .ensures) (a .n)
+    (c .before .before .put-number .ensures)
 
 pub put-field-spec : {M : Type 1} → statement M
 put-field-spec = tie.close (tie.spec put-bytes-requires put-number-requires same-length returns)

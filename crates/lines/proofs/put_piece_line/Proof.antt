@@ -1,194 +1,162 @@
 -- `put_piece_line` meets its contract: its six fields, and the newline, one right behind the other.
+use Prim.Native.Nat.{ℕ}
+use mathlib.Core.List.{List, [], _∷_}
 use native.Mathlib.Omega.{arith}
+use lib.ListN.{take}
 use Rattle.rules.specs.Listing.{letters, field, signedField}
 use Rattle.lines.specs.Lines.{pieceText}
-use Rattle.lines.proofs.LineLaws.{no-field, then-field, then-newline, newline-same}
+use Rattle.lines.proofs.LineLaws.{Fields, no-field, then-field, field-fits, newline-fits, then-newline}
+use Rattle.lines.proofs.LineLaws.{newline-same}
 use mir.Syntax.{w32}
 use mir.Facts.{toZ-ofZ, toZ-pos}
+use Rattle.output.specs.Late.{latenessOf}
 use Rattle.output.proofs.FigureLaws.{late-fits}
 use Rattle.lines.proofs.LineLaws.{late-is}
 use borrow.Author.Needs.{needs}
 use Rattle.lines.proofs.put_piece_line.Statement.{statement}
 use Rattle.lines.proofs.put_piece_line.Tie as tie
 
+-- The begin of the call, seen from the first field put; and each field put, seen from the next one.
+abbrev begin : tie.After-put-field → tie.Start
+begin c = c .before .before .before .before
+
+abbrev piece-put : tie.After-put-field2 → tie.After-put-field
+piece-put c = c .before .before .before .before .before
+
+abbrev desk-put : tie.After-put-field3 → tie.After-put-field2
+desk-put c = c .before .before .before .before .before
+
+abbrev start-put : tie.After-put-field4 → tie.After-put-field3
+start-put c = c .before .before .before .before .before
+
+abbrev finish-put : tie.After-put-signed-field → tie.After-put-field4
+finish-put c = c .before .before .before .before .before
+
+abbrev latest-put : tie.After-put-signed-field2 → tie.After-put-signed-field
+latest-put c = c .before .before .before .before .before
+
+-- The first k fields of the line stand there.
+abbrev Stand : tie.Start → ℕ → List ℕ → ℕ → Type 0
+Stand s k =
+    let a = s .args in
+    Fields (a .text .now) (a .at) (take k (
+    field "piece " (a .piece) ∷ field " desk " (a .desk) ∷ field " start " (a .start) ∷ field " finish " (a .finish)
+    ∷ signedField " latest " (a .latest) ∷ signedField " late " (latenessOf (a .finish) (a .latest)) ∷ []))
+
+one : (c : tie.After-put-field) → Stand (begin c) 1 (c .put-field .last .0) (c .put-field .result)
+unfolding field letters signedField
+one c = let a = begin c .args in then-field (no-field (a .text .now) (a .at)) (c .put-field .ensures)
+
+two : (c : tie.After-put-field2) → Stand (begin (piece-put c)) 2 (c .put-field2 .last .0) (c .put-field2 .result)
+unfolding field letters signedField
+two c = then-field (one (piece-put c)) (c .put-field2 .ensures)
+
+three : (c : tie.After-put-field3) → Stand (begin (piece-put (desk-put c))) 3 (c .put-field3 .last .0)
+    (c .put-field3 .result)
+unfolding field letters signedField
+three c = then-field (two (desk-put c)) (c .put-field3 .ensures)
+
+four : (c : tie.After-put-field4) → Stand (begin (piece-put (desk-put (start-put c)))) 4 (c .put-field4 .last .0)
+    (c .put-field4 .result)
+unfolding field letters signedField
+four c = then-field (three (start-put c)) (c .put-field4 .ensures)
+
+five : (c : tie.After-put-signed-field) → Stand (begin (piece-put (desk-put (start-put (finish-put c))))) 5
+    (c .put-signed-field .last .0) (c .put-signed-field .result)
+unfolding field letters signedField
+five c =
+    let s = begin (piece-put (desk-put (start-put (finish-put c)))) in
+    then-field (four (finish-put c)) (simp (toZ-ofZ (s .fits .latest)) at (c .put-signed-field .ensures))
+
+six : (c : tie.After-put-signed-field2) → Stand (begin (piece-put (desk-put (start-put (finish-put (latest-put c)))))) 6
+    (c .put-signed-field2 .last .0) (c .put-signed-field2 .result)
+unfolding field letters signedField
+six c =
+    let s = begin (piece-put (desk-put (start-put (finish-put (latest-put c))))) in
+    let late = late-is (s .args .finish) (s .args .latest) (s .fits .latest) (s .pre .1) in
+    then-field (five (latest-put c)) (simp late at (c .put-signed-field2 .ensures))
+
 slice-aggregate-put-field : tie.Need-slice-aggregate-put-field
 slice-aggregate-put-field c = search needs
 
 put-field-requires : tie.Need-put-field-requires
 put-field-requires c κs =
-    let a = c .before .before .before .args in
-    let F0 = no-field (a .text .now) (a .at) in
-    record { short = omega arith; room = omega (arith, F0 .same, F0 .near, c .before .before .before .pre .0) }
+    let s = c .before .before .before in
+    field-fits (no-field (s .args .text .now) (s .args .at)) (omega arith) (omega (arith, s .pre .0))
 
 slice-aggregate-put-field-2 : tie.Need-slice-aggregate-put-field-2
 slice-aggregate-put-field-2 c = search needs
 
 put-field-requires-2 : tie.Need-put-field-requires-2
 put-field-requires-2 c κs =
-    let s4 = c .before .before .before .before in
-    let s8 = s4 .before .before .before .before in
-    let a = s8 .args in
-    let F0 = no-field (a .text .now) (a .at) in
-    let F1 = then-field F0 (s4 .put-field .ensures) in
-    record { short = omega arith; room = omega (arith, F1 .same, F1 .near, s8 .pre .0) }
+    let put = c .before .before .before .before in
+    field-fits (one put) (omega arith) (omega (arith, begin put .pre .0))
 
 slice-aggregate-put-field-3 : tie.Need-slice-aggregate-put-field-3
 slice-aggregate-put-field-3 c = search needs
 
 put-field-requires-3 : tie.Need-put-field-requires-3
 put-field-requires-3 c κs =
-    let s4 = c .before .before .before .before in
-    let s9 = s4 .before .before .before .before .before in
-    let s13 = s9 .before .before .before .before in
-    let a = s13 .args in
-    let F0 = no-field (a .text .now) (a .at) in
-    let F1 = then-field F0 (s9 .put-field .ensures) in
-    let F2 = then-field F1 (s4 .put-field2 .ensures) in
-    record { short = omega arith; room = omega (arith, F2 .same, F2 .near, s13 .pre .0) }
+    let put = c .before .before .before .before in
+    field-fits (two put) (omega arith) (omega (arith, begin (piece-put put) .pre .0))
 
 slice-aggregate-put-field-4 : tie.Need-slice-aggregate-put-field-4
 slice-aggregate-put-field-4 c = search needs
 
 put-field-requires-4 : tie.Need-put-field-requires-4
 put-field-requires-4 c κs =
-    let s4 = c .before .before .before .before in
-    let s9 = s4 .before .before .before .before .before in
-    let s14 = s9 .before .before .before .before .before in
-    let s18 = s14 .before .before .before .before in
-    let a = s18 .args in
-    let F0 = no-field (a .text .now) (a .at) in
-    let F1 = then-field F0 (s14 .put-field .ensures) in
-    let F2 = then-field F1 (s9 .put-field2 .ensures) in
-    let F3 = then-field F2 (s4 .put-field3 .ensures) in
-    record { short = omega arith; room = omega (arith, F3 .same, F3 .near, s18 .pre .0) }
+    let put = c .before .before .before .before in
+    field-fits (three put) (omega arith) (omega (arith, begin (piece-put (desk-put put)) .pre .0))
 
 slice-aggregate-put-signed-field : tie.Need-slice-aggregate-put-signed-field
 slice-aggregate-put-signed-field c = search needs
 
 put-signed-field-requires : tie.Need-put-signed-field-requires
 put-signed-field-requires c κs =
-    let s4 = c .before .before .before .before in
-    let s9 = s4 .before .before .before .before .before in
-    let s14 = s9 .before .before .before .before .before in
-    let s19 = s14 .before .before .before .before .before in
-    let s23 = s19 .before .before .before .before in
-    let a = s23 .args in
-    let F0 = no-field (a .text .now) (a .at) in
-    let F1 = then-field F0 (s19 .put-field .ensures) in
-    let F2 = then-field F1 (s14 .put-field2 .ensures) in
-    let F3 = then-field F2 (s9 .put-field3 .ensures) in
-    let F4 = then-field F3 (s4 .put-field4 .ensures) in
-    record { short = omega arith; room = omega (arith, F4 .same, F4 .near, s23 .pre .0) }
+    let put = c .before .before .before .before in
+    field-fits (four put) (omega arith) (omega (arith, begin (piece-put (desk-put (start-put put))) .pre .0))
 
 cast-late : tie.Need-cast-late
 cast-late c =
-    let s13 = c .before .before .before .before .before .before .before .before .before .before .before .before .before in
-    let s26 = s13 .before .before .before .before .before .before .before .before .before .before .before .before .before in
-    omega (arith, s26 .pre .1 .early)
+    let s = begin (piece-put (desk-put (start-put (finish-put (c .before .before))))) in
+    omega (arith, s .pre .1 .early)
 
 sub-late : tie.Need-sub-late
 sub-late c =
-    let s13 = c .before .before .before .before .before .before .before .before .before .before .before .before .before in
-    let s26 = s13 .before .before .before .before .before .before .before .before .before .before .before .before .before in
-    rw (toZ-pos w32 {n = s26 .args .finish} (omega (arith, s26 .pre .1 .early)), toZ-ofZ (s26 .fits .latest))
-    (late-fits (s26 .args .finish) (s26 .args .latest) (s26 .pre .1))
+    let s = begin (piece-put (desk-put (start-put (finish-put (c .before .before))))) in
+    rw (toZ-pos w32 {n = s .args .finish} (omega (arith, s .pre .1 .early)), toZ-ofZ (s .fits .latest))
+    (late-fits (s .args .finish) (s .args .latest) (s .pre .1))
 
 slice-aggregate-put-signed-field-2 : tie.Need-slice-aggregate-put-signed-field-2
 slice-aggregate-put-signed-field-2 c = search needs
 
 put-signed-field-requires-2 : tie.Need-put-signed-field-requires-2
 put-signed-field-requires-2 c κs =
-    let s4 = c .before .before .before .before in
-    let s9 = s4 .before .before .before .before .before in
-    let s14 = s9 .before .before .before .before .before in
-    let s19 = s14 .before .before .before .before .before in
-    let s24 = s19 .before .before .before .before .before in
-    let s28 = s24 .before .before .before .before in
-    let a = s28 .args in
-    let F0 = no-field (a .text .now) (a .at) in
-    let F1 = then-field F0 (s24 .put-field .ensures) in
-    let F2 = then-field F1 (s19 .put-field2 .ensures) in
-    let F3 = then-field F2 (s14 .put-field3 .ensures) in
-    let F4 = then-field F3 (s9 .put-field4 .ensures) in
-    let F5 = then-field F4 (simp (toZ-ofZ (s28 .fits .latest)) at (s4 .put-signed-field .ensures)) in
-    record { short = omega arith; room = omega (arith, F5 .same, F5 .near, s28 .pre .0) }
+    let put = c .before .before .before .before in
+    field-fits (five put) (omega arith) (omega
+    (arith, begin (piece-put (desk-put (start-put (finish-put put)))) .pre .0))
 
 slice-write-text : tie.Need-slice-write-text
 slice-write-text c =
-    let s7 = c .before .before .before .before .before .before .before in
-    let s12 = s7 .before .before .before .before .before in
-    let s17 = s12 .before .before .before .before .before in
-    let s22 = s17 .before .before .before .before .before in
-    let s27 = s22 .before .before .before .before .before in
-    let s31 = s27 .before .before .before .before in
-    let a = s31 .args in
-    let F0 = no-field (a .text .now) (a .at) in
-    let F1 = then-field F0 (s27 .put-field .ensures) in
-    let F2 = then-field F1 (s22 .put-field2 .ensures) in
-    let F3 = then-field F2 (s17 .put-field3 .ensures) in
-    let F4 = then-field F3 (s12 .put-field4 .ensures) in
-    let F5 = then-field F4 (simp (toZ-ofZ (s31 .fits .latest)) at (s7 .put-signed-field .ensures)) in
-    let late = late-is (a .finish) (a .latest) (s31 .fits .latest) (s31 .pre .1) in
-    let F6 = then-field F5 (simp late at (c .before .before .put-signed-field2 .ensures)) in
-    omega (arith, F6 .same, F6 .near, s31 .pre .0)
+    let put = c .before .before in
+    newline-fits (six put) (omega (
+      arith,
+      begin
+          (piece-put (desk-put (start-put (finish-put (latest-put put))))) .pre .0,
+    ))
 
 add-result : tie.Need-add-result
 add-result c =
-    let s7 = c .before .before .before .before .before .before .before in
-    let s12 = s7 .before .before .before .before .before in
-    let s17 = s12 .before .before .before .before .before in
-    let s22 = s17 .before .before .before .before .before in
-    let s27 = s22 .before .before .before .before .before in
-    let s31 = s27 .before .before .before .before in
-    let a = s31 .args in
-    let F0 = no-field (a .text .now) (a .at) in
-    let F1 = then-field F0 (s27 .put-field .ensures) in
-    let F2 = then-field F1 (s22 .put-field2 .ensures) in
-    let F3 = then-field F2 (s17 .put-field3 .ensures) in
-    let F4 = then-field F3 (s12 .put-field4 .ensures) in
-    let F5 = then-field F4 (simp (toZ-ofZ (s31 .fits .latest)) at (s7 .put-signed-field .ensures)) in
-    let late = late-is (a .finish) (a .latest) (s31 .fits .latest) (s31 .pre .1) in
-    let F6 = then-field F5 (simp late at (c .before .before .put-signed-field2 .ensures)) in
-    omega (arith, F6 .near, s31 .pre .0, F6 .same, s31 .good .1 .0 .1, s31 .good .0)
+    let put = c .before .before in
+    let s = begin (piece-put (desk-put (start-put (finish-put (latest-put put))))) in
+    omega (arith, newline-fits (six put) (omega (arith, s .pre .0)), six put .same, s .good .1 .0 .1, s .good .0)
 
 same-length : tie.Need-same-length
-same-length c =
-    let s7 = c .before .before .before .before .before .before .before in
-    let s12 = s7 .before .before .before .before .before in
-    let s17 = s12 .before .before .before .before .before in
-    let s22 = s17 .before .before .before .before .before in
-    let s27 = s22 .before .before .before .before .before in
-    let s31 = s27 .before .before .before .before in
-    let a = s31 .args in
-    let F0 = no-field (a .text .now) (a .at) in
-    let F1 = then-field F0 (s27 .put-field .ensures) in
-    let F2 = then-field F1 (s22 .put-field2 .ensures) in
-    let F3 = then-field F2 (s17 .put-field3 .ensures) in
-    let F4 = then-field F3 (s12 .put-field4 .ensures) in
-    let F5 = then-field F4 (simp (toZ-ofZ (s31 .fits .latest)) at (s7 .put-signed-field .ensures)) in
-    let late = late-is (a .finish) (a .latest) (s31 .fits .latest) (s31 .pre .1) in
-    let F6 = then-field F5 (simp late at (c .before .before .put-signed-field2 .ensures)) in
-    newline-same F6
+same-length c = newline-same (six (c .before .before))
 
 returns : tie.Need-returns
 unfolding pieceText field letters signedField
-returns c =
-    let s7 = c .before .before .before .before .before .before .before in
-    let s12 = s7 .before .before .before .before .before in
-    let s17 = s12 .before .before .before .before .before in
-    let s22 = s17 .before .before .before .before .before in
-    let s27 = s22 .before .before .before .before .before in
-    let s31 = s27 .before .before .before .before in
-    let a = s31 .args in
-    let F0 = no-field (a .text .now) (a .at) in
-    let F1 = then-field F0 (s27 .put-field .ensures) in
-    let F2 = then-field F1 (s22 .put-field2 .ensures) in
-    let F3 = then-field F2 (s17 .put-field3 .ensures) in
-    let F4 = then-field F3 (s12 .put-field4 .ensures) in
-    let F5 = then-field F4 (simp (toZ-ofZ (s31 .fits .latest)) at (s7 .put-signed-field .ensures)) in
-    let late = late-is (a .finish) (a .latest) (s31 .fits .latest) (s31 .pre .1) in
-    let F6 = then-field F5 (simp late at (c .before .before .put-signed-field2 .ensures)) in
-    then-newline F6
+returns c = then-newline (six (c .before .before))
 
 pub put-piece-line-spec : {M : Type 1} → statement M
 put-piece-line-spec =

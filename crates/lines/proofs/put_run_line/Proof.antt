@@ -1,119 +1,104 @@
 -- `put_run_line` meets its contract: its four fields, and the newline, one right behind the other.
+use Prim.Native.Nat.{ℕ}
+use mathlib.Core.List.{List, [], _∷_}
 use native.Mathlib.Omega.{arith}
+use lib.ListN.{take}
 use Rattle.rules.specs.Listing.{letters, field}
 use Rattle.lines.specs.Lines.{runText}
-use Rattle.lines.proofs.LineLaws.{no-field, then-field, then-newline, newline-same}
+use Rattle.lines.proofs.LineLaws.{Fields, no-field, then-field, field-fits, newline-fits, then-newline}
+use Rattle.lines.proofs.LineLaws.{newline-same}
 use borrow.Author.Needs.{needs}
 use Rattle.lines.proofs.put_run_line.Statement.{statement}
 use Rattle.lines.proofs.put_run_line.Tie as tie
+
+-- The begin of the call, seen from the first field put; and each field put, seen from the next one.
+abbrev begin : tie.After-put-field → tie.Start
+begin c = c .before .before .before .before
+
+abbrev desk-put : tie.After-put-field2 → tie.After-put-field
+desk-put c = c .before .before .before .before .before
+
+abbrev piece-put : tie.After-put-field3 → tie.After-put-field2
+piece-put c = c .before .before .before .before .before
+
+abbrev from-put : tie.After-put-field4 → tie.After-put-field3
+from-put c = c .before .before .before .before .before
+
+-- The first k fields of the line stand there.
+abbrev Stand : tie.Start → ℕ → List ℕ → ℕ → Type 0
+Stand s k =
+    let a = s .args in
+    Fields (a .text .now) (a .at) (take k (
+    field "run desk " (a .desk) ∷ field " piece " (a .piece) ∷ field " from " (a .from) ∷ field " until "
+    (a .until) ∷ []))
+
+one : (c : tie.After-put-field) → Stand (begin c) 1 (c .put-field .last .0) (c .put-field .result)
+unfolding field letters
+one c = let a = begin c .args in then-field (no-field (a .text .now) (a .at)) (c .put-field .ensures)
+
+two : (c : tie.After-put-field2) → Stand (begin (desk-put c)) 2 (c .put-field2 .last .0) (c .put-field2 .result)
+unfolding field letters
+two c = then-field (one (desk-put c)) (c .put-field2 .ensures)
+
+three : (c : tie.After-put-field3) → Stand (begin (desk-put (piece-put c))) 3 (c .put-field3 .last .0)
+    (c .put-field3 .result)
+unfolding field letters
+three c = then-field (two (piece-put c)) (c .put-field3 .ensures)
+
+four : (c : tie.After-put-field4) → Stand (begin (desk-put (piece-put (from-put c)))) 4 (c .put-field4 .last .0)
+    (c .put-field4 .result)
+unfolding field letters
+four c = then-field (three (from-put c)) (c .put-field4 .ensures)
 
 slice-aggregate-put-field : tie.Need-slice-aggregate-put-field
 slice-aggregate-put-field c = search needs
 
 put-field-requires : tie.Need-put-field-requires
 put-field-requires c κs =
-    let a = c .before .before .before .args in
-    let F0 = no-field (a .text .now) (a .at) in
-    record { short = omega arith; room = omega (arith, F0 .same, F0 .near, c .before .before .before .pre) }
+    let s = c .before .before .before in
+    field-fits (no-field (s .args .text .now) (s .args .at)) (omega arith) (omega (arith, s .pre))
 
 slice-aggregate-put-field-2 : tie.Need-slice-aggregate-put-field-2
 slice-aggregate-put-field-2 c = search needs
 
 put-field-requires-2 : tie.Need-put-field-requires-2
 put-field-requires-2 c κs =
-    let s4 = c .before .before .before .before in
-    let s8 = s4 .before .before .before .before in
-    let a = s8 .args in
-    let F0 = no-field (a .text .now) (a .at) in
-    let F1 = then-field F0 (s4 .put-field .ensures) in
-    record { short = omega arith; room = omega (arith, F1 .same, F1 .near, s8 .pre) }
+    let put = c .before .before .before .before in
+    field-fits (one put) (omega arith) (omega (arith, begin put .pre))
 
 slice-aggregate-put-field-3 : tie.Need-slice-aggregate-put-field-3
 slice-aggregate-put-field-3 c = search needs
 
 put-field-requires-3 : tie.Need-put-field-requires-3
 put-field-requires-3 c κs =
-    let s4 = c .before .before .before .before in
-    let s9 = s4 .before .before .before .before .before in
-    let s13 = s9 .before .before .before .before in
-    let a = s13 .args in
-    let F0 = no-field (a .text .now) (a .at) in
-    let F1 = then-field F0 (s9 .put-field .ensures) in
-    let F2 = then-field F1 (s4 .put-field2 .ensures) in
-    record { short = omega arith; room = omega (arith, F2 .same, F2 .near, s13 .pre) }
+    let put = c .before .before .before .before in
+    field-fits (two put) (omega arith) (omega (arith, begin (desk-put put) .pre))
 
 slice-aggregate-put-field-4 : tie.Need-slice-aggregate-put-field-4
 slice-aggregate-put-field-4 c = search needs
 
 put-field-requires-4 : tie.Need-put-field-requires-4
 put-field-requires-4 c κs =
-    let s4 = c .before .before .before .before in
-    let s9 = s4 .before .before .before .before .before in
-    let s14 = s9 .before .before .before .before .before in
-    let s18 = s14 .before .before .before .before in
-    let a = s18 .args in
-    let F0 = no-field (a .text .now) (a .at) in
-    let F1 = then-field F0 (s14 .put-field .ensures) in
-    let F2 = then-field F1 (s9 .put-field2 .ensures) in
-    let F3 = then-field F2 (s4 .put-field3 .ensures) in
-    record { short = omega arith; room = omega (arith, F3 .same, F3 .near, s18 .pre) }
+    let put = c .before .before .before .before in
+    field-fits (three put) (omega arith) (omega (arith, begin (desk-put (piece-put put)) .pre))
 
 slice-write-text : tie.Need-slice-write-text
 slice-write-text c =
-    let s7 = c .before .before .before .before .before .before .before in
-    let s12 = s7 .before .before .before .before .before in
-    let s17 = s12 .before .before .before .before .before in
-    let s21 = s17 .before .before .before .before in
-    let a = s21 .args in
-    let F0 = no-field (a .text .now) (a .at) in
-    let F1 = then-field F0 (s17 .put-field .ensures) in
-    let F2 = then-field F1 (s12 .put-field2 .ensures) in
-    let F3 = then-field F2 (s7 .put-field3 .ensures) in
-    let F4 = then-field F3 (c .before .before .put-field4 .ensures) in
-    omega (arith, F4 .same, F4 .near, s21 .pre)
+    let put = c .before .before in
+    newline-fits (four put) (omega (arith, begin (desk-put (piece-put (from-put put))) .pre))
 
 add-result : tie.Need-add-result
 add-result c =
-    let s7 = c .before .before .before .before .before .before .before in
-    let s12 = s7 .before .before .before .before .before in
-    let s17 = s12 .before .before .before .before .before in
-    let s21 = s17 .before .before .before .before in
-    let a = s21 .args in
-    let F0 = no-field (a .text .now) (a .at) in
-    let F1 = then-field F0 (s17 .put-field .ensures) in
-    let F2 = then-field F1 (s12 .put-field2 .ensures) in
-    let F3 = then-field F2 (s7 .put-field3 .ensures) in
-    let F4 = then-field F3 (c .before .before .put-field4 .ensures) in
-    omega (arith, F4 .same, F4 .near, s21 .pre)
+    let put = c .before .before in
+    let s = begin (desk-put (piece-put (from-put put))) in
+    omega (arith, newline-fits (four put) (omega (arith, s .pre)), four put .same, s .good .1 .0 .1, s .good .0)
 
 same-length : tie.Need-same-length
-same-length c =
-    let s7 = c .before .before .before .before .before .before .before in
-    let s12 = s7 .before .before .before .before .before in
-    let s17 = s12 .before .before .before .before .before in
-    let s21 = s17 .before .before .before .before in
-    let a = s21 .args in
-    let F0 = no-field (a .text .now) (a .at) in
-    let F1 = then-field F0 (s17 .put-field .ensures) in
-    let F2 = then-field F1 (s12 .put-field2 .ensures) in
-    let F3 = then-field F2 (s7 .put-field3 .ensures) in
-    let F4 = then-field F3 (c .before .before .put-field4 .ensures) in
-    newline-same F4
+same-length c = newline-same (four (c .before .before))
 
 returns : tie.Need-returns
 unfolding runText field letters
-returns c =
-    let s7 = c .before .before .before .before .before .before .before in
-    let s12 = s7 .before .before .before .before .before in
-    let s17 = s12 .before .before .before .before .before in
-    let s21 = s17 .before .before .before .before in
-    let a = s21 .args in
-    let F0 = no-field (a .text .now) (a .at) in
-    let F1 = then-field F0 (s17 .put-field .ensures) in
-    let F2 = then-field F1 (s12 .put-field2 .ensures) in
-    let F3 = then-field F2 (s7 .put-field3 .ensures) in
-    let F4 = then-field F3 (c .before .before .put-field4 .ensures) in
-    then-newline F4
+returns c = then-newline (four (c .before .before))
 
 pub put-run-line-spec : {M : Type 1} → statement M
 put-run-line-spec =

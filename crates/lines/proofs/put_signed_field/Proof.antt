@@ -12,15 +12,21 @@ put-bytes-requires c κs = omega (arith, c .before .before .before .pre .room, c
 
 put-signed-requires : tie.Need-put-signed-requires
 put-signed-requires c κs =
-    let put = c .before .before .before .put-bytes .ensures in omega (arith, puts-same put, put .past, c .before .before .before .before .before .before .before .pre .room, c .before .before .before .before .before .before .before .pre .short)
+    let word = c .before .before .before in
+    let fits = word .before .before .before .before .pre in
+    let put = word .put-bytes .ensures in
+    omega (arith, puts-same put, put .past, fits .room, fits .short)
 
 same-length : tie.Need-same-length
 same-length c = search needs
 
 returns : tie.Need-returns
 returns c =
-    let a = c .before .before .before .before .before .before .before .before .before .before .args in
-    signed-field (a .word .now) (c .before .before .before .before .before .before .before .before .before .before .pre .short) (c .before .before .before .before .before .before .put-bytes .ensures) (a .z) (simp (toZ-ofZ (c .before .before .before .before .before .before .before .before .before .before .fits .z)) at (c .before .before .put-signed .ensures))
+    let word = c .before .before .before .before .before .before in
+    let start = word .before .before .before .before in
+    let a = start .args in
+    signed-field (a .word .now) (start .pre .short) (word .put-bytes .ensures) (a .z)
+    (simp (toZ-ofZ (start .fits .z)) at (c .before .before .put-signed .ensures))
 
 pub put-signed-field-spec : {M : Type 1} → statement M
 put-signed-field-spec =

@@ -1,120 +1,107 @@
 -- `put_total_line` meets its contract: its four fields, and the newline, one right behind the other.
+use Prim.Native.Nat.{ℕ}
+use mathlib.Core.List.{List, [], _∷_}
 use native.Mathlib.Omega.{arith}
+use lib.ListN.{take}
 use Rattle.rules.specs.Listing.{letters, field, signedField}
 use Rattle.lines.specs.Lines.{totalText}
-use Rattle.lines.proofs.LineLaws.{no-field, then-field, then-newline, newline-same}
+use Rattle.lines.proofs.LineLaws.{Fields, no-field, then-field, field-fits, newline-fits, then-newline}
+use Rattle.lines.proofs.LineLaws.{newline-same}
 use mir.Facts.{toZ-ofZ}
 use borrow.Author.Needs.{needs}
 use Rattle.lines.proofs.put_total_line.Statement.{statement}
 use Rattle.lines.proofs.put_total_line.Tie as tie
+
+-- The begin of the call, seen from the first field put; and each field put, seen from the next one.
+abbrev begin : tie.After-put-field → tie.Start
+begin c = c .before .before .before .before
+
+abbrev pieces-put : tie.After-put-field2 → tie.After-put-field
+pieces-put c = c .before .before .before .before .before
+
+abbrev runs-put : tie.After-put-field3 → tie.After-put-field2
+runs-put c = c .before .before .before .before .before
+
+abbrev end-put : tie.After-put-signed-field → tie.After-put-field3
+end-put c = c .before .before .before .before .before
+
+-- The first k fields of the line stand there.
+abbrev Stand : tie.Start → ℕ → List ℕ → ℕ → Type 0
+Stand s k =
+    let a = s .args in
+    Fields (a .text .now) (a .at) (take k (
+    field "total pieces " (a .pieces) ∷ field " runs " (a .runs) ∷ field " end " (a .end) ∷ signedField " worst "
+    (a .worst) ∷ []))
+
+one : (c : tie.After-put-field) → Stand (begin c) 1 (c .put-field .last .0) (c .put-field .result)
+unfolding field letters signedField
+one c = let a = begin c .args in then-field (no-field (a .text .now) (a .at)) (c .put-field .ensures)
+
+two : (c : tie.After-put-field2) → Stand (begin (pieces-put c)) 2 (c .put-field2 .last .0) (c .put-field2 .result)
+unfolding field letters signedField
+two c = then-field (one (pieces-put c)) (c .put-field2 .ensures)
+
+three : (c : tie.After-put-field3) → Stand (begin (pieces-put (runs-put c))) 3 (c .put-field3 .last .0)
+    (c .put-field3 .result)
+unfolding field letters signedField
+three c = then-field (two (runs-put c)) (c .put-field3 .ensures)
+
+four : (c : tie.After-put-signed-field) → Stand (begin (pieces-put (runs-put (end-put c)))) 4
+    (c .put-signed-field .last .0) (c .put-signed-field .result)
+unfolding field letters signedField
+four c =
+    let s = begin (pieces-put (runs-put (end-put c))) in
+    then-field (three (end-put c)) (simp (toZ-ofZ (s .fits .worst)) at (c .put-signed-field .ensures))
 
 slice-aggregate-put-field : tie.Need-slice-aggregate-put-field
 slice-aggregate-put-field c = search needs
 
 put-field-requires : tie.Need-put-field-requires
 put-field-requires c κs =
-    let a = c .before .before .before .args in
-    let F0 = no-field (a .text .now) (a .at) in
-    record { short = omega arith; room = omega (arith, F0 .same, F0 .near, c .before .before .before .pre) }
+    let s = c .before .before .before in
+    field-fits (no-field (s .args .text .now) (s .args .at)) (omega arith) (omega (arith, s .pre))
 
 slice-aggregate-put-field-2 : tie.Need-slice-aggregate-put-field-2
 slice-aggregate-put-field-2 c = search needs
 
 put-field-requires-2 : tie.Need-put-field-requires-2
 put-field-requires-2 c κs =
-    let s4 = c .before .before .before .before in
-    let s8 = s4 .before .before .before .before in
-    let a = s8 .args in
-    let F0 = no-field (a .text .now) (a .at) in
-    let F1 = then-field F0 (s4 .put-field .ensures) in
-    record { short = omega arith; room = omega (arith, F1 .same, F1 .near, s8 .pre) }
+    let put = c .before .before .before .before in
+    field-fits (one put) (omega arith) (omega (arith, begin put .pre))
 
 slice-aggregate-put-field-3 : tie.Need-slice-aggregate-put-field-3
 slice-aggregate-put-field-3 c = search needs
 
 put-field-requires-3 : tie.Need-put-field-requires-3
 put-field-requires-3 c κs =
-    let s4 = c .before .before .before .before in
-    let s9 = s4 .before .before .before .before .before in
-    let s13 = s9 .before .before .before .before in
-    let a = s13 .args in
-    let F0 = no-field (a .text .now) (a .at) in
-    let F1 = then-field F0 (s9 .put-field .ensures) in
-    let F2 = then-field F1 (s4 .put-field2 .ensures) in
-    record { short = omega arith; room = omega (arith, F2 .same, F2 .near, s13 .pre) }
+    let put = c .before .before .before .before in
+    field-fits (two put) (omega arith) (omega (arith, begin (pieces-put put) .pre))
 
 slice-aggregate-put-signed-field : tie.Need-slice-aggregate-put-signed-field
 slice-aggregate-put-signed-field c = search needs
 
 put-signed-field-requires : tie.Need-put-signed-field-requires
 put-signed-field-requires c κs =
-    let s4 = c .before .before .before .before in
-    let s9 = s4 .before .before .before .before .before in
-    let s14 = s9 .before .before .before .before .before in
-    let s18 = s14 .before .before .before .before in
-    let a = s18 .args in
-    let F0 = no-field (a .text .now) (a .at) in
-    let F1 = then-field F0 (s14 .put-field .ensures) in
-    let F2 = then-field F1 (s9 .put-field2 .ensures) in
-    let F3 = then-field F2 (s4 .put-field3 .ensures) in
-    record { short = omega arith; room = omega (arith, F3 .same, F3 .near, s18 .pre) }
+    let put = c .before .before .before .before in
+    field-fits (three put) (omega arith) (omega (arith, begin (pieces-put (runs-put put)) .pre))
 
 slice-write-text : tie.Need-slice-write-text
 slice-write-text c =
-    let s7 = c .before .before .before .before .before .before .before in
-    let s12 = s7 .before .before .before .before .before in
-    let s17 = s12 .before .before .before .before .before in
-    let s21 = s17 .before .before .before .before in
-    let a = s21 .args in
-    let F0 = no-field (a .text .now) (a .at) in
-    let F1 = then-field F0 (s17 .put-field .ensures) in
-    let F2 = then-field F1 (s12 .put-field2 .ensures) in
-    let F3 = then-field F2 (s7 .put-field3 .ensures) in
-    let F4 = then-field F3 (simp (toZ-ofZ (s21 .fits .worst)) at (c .before .before .put-signed-field .ensures)) in
-    omega (arith, F4 .same, F4 .near, s21 .pre)
+    let put = c .before .before in
+    newline-fits (four put) (omega (arith, begin (pieces-put (runs-put (end-put put))) .pre))
 
 add-result : tie.Need-add-result
 add-result c =
-    let s7 = c .before .before .before .before .before .before .before in
-    let s12 = s7 .before .before .before .before .before in
-    let s17 = s12 .before .before .before .before .before in
-    let s21 = s17 .before .before .before .before in
-    let a = s21 .args in
-    let F0 = no-field (a .text .now) (a .at) in
-    let F1 = then-field F0 (s17 .put-field .ensures) in
-    let F2 = then-field F1 (s12 .put-field2 .ensures) in
-    let F3 = then-field F2 (s7 .put-field3 .ensures) in
-    let F4 = then-field F3 (simp (toZ-ofZ (s21 .fits .worst)) at (c .before .before .put-signed-field .ensures)) in
-    omega (arith, F4 .same, F4 .near, s21 .pre)
+    let put = c .before .before in
+    let s = begin (pieces-put (runs-put (end-put put))) in
+    omega (arith, newline-fits (four put) (omega (arith, s .pre)), four put .same, s .good .1 .0 .1, s .good .0)
 
 same-length : tie.Need-same-length
-same-length c =
-    let s7 = c .before .before .before .before .before .before .before in
-    let s12 = s7 .before .before .before .before .before in
-    let s17 = s12 .before .before .before .before .before in
-    let s21 = s17 .before .before .before .before in
-    let a = s21 .args in
-    let F0 = no-field (a .text .now) (a .at) in
-    let F1 = then-field F0 (s17 .put-field .ensures) in
-    let F2 = then-field F1 (s12 .put-field2 .ensures) in
-    let F3 = then-field F2 (s7 .put-field3 .ensures) in
-    let F4 = then-field F3 (simp (toZ-ofZ (s21 .fits .worst)) at (c .before .before .put-signed-field .ensures)) in
-    newline-same F4
+same-length c = newline-same (four (c .before .before))
 
 returns : tie.Need-returns
 unfolding totalText field letters signedField
-returns c =
-    let s7 = c .before .before .before .before .before .before .before in
-    let s12 = s7 .before .before .before .before .before in
-    let s17 = s12 .before .before .before .before .before in
-    let s21 = s17 .before .before .before .before in
-    let a = s21 .args in
-    let F0 = no-field (a .text .now) (a .at) in
-    let F1 = then-field F0 (s17 .put-field .ensures) in
-    let F2 = then-field F1 (s12 .put-field2 .ensures) in
-    let F3 = then-field F2 (s7 .put-field3 .ensures) in
-    let F4 = then-field F3 (simp (toZ-ofZ (s21 .fits .worst)) at (c .before .before .put-signed-field .ensures)) in
-    then-newline F4
+returns c = then-newline (four (c .before .before))
 
 pub put-total-line-spec : {M : Type 1} → statement M
 put-total-line-spec =

@@ -1,4 +1,5 @@
--- `latest_moments` meets its contract. The loop's invariant: the pieces from place p of the order on have their moments.
+-- `latest_moments` meets its contract. The loop's invariant: the pieces from place p of the order on have their
+-- moments.
 use Prim.Native.Nat.{suc, _-_, _≤_, _<_}
 use mathlib.Core.Path.{_≡_, _∙_}
 use native.Mathlib.Omega.{arith}
@@ -13,7 +14,8 @@ use Rattle.moments.proofs.latest_moments.Tie as tie
 abbrev Inv-loop : tie.InvT-loop
 Inv-loop pieces desks durations dues afters handovers lasts priors order moments₀ p₀ moments p =
     (p ≤ pieces) × (length moments ≡ 256)
-    × ((T : Timeable pieces desks durations dues afters handovers lasts priors order) → Done _ _ _ _ _ _ _ _ _ T p moments)
+    × ((T : Timeable pieces desks durations dues afters handovers lasts priors order)
+    → Done _ _ _ _ _ _ _ _ _ T p moments)
 
 abbrev μ-loop : tie.MeasureT-loop
 μ-loop pieces desks durations dues afters handovers lasts priors order moments₀ p₀ moments p = p
@@ -28,8 +30,8 @@ sub-p c = omega (arith, c .loop-test .taken)
 module _ (c : tie.In-loop Inv-loop μ-loop) where
   abbrev Tables : Type 0
   Tables = let a = c .before .before .args in
-      Timeable (a .pieces) (a .desks .now) (a .durations .now) (a .dues .now) (a .afters .now) (a .handovers .now) (a .lasts .now)
-      (a .priors .now) (a .order .now)
+      Timeable (a .pieces) (a .desks .now) (a .durations .now) (a .dues .now) (a .afters .now) (a .handovers .now)
+      (a .lasts .now) (a .priors .now) (a .order .now)
 
   abbrev asked : Tables
   asked = c .before .before .pre .timeable
@@ -44,7 +46,11 @@ module _ (c : tie.In-loop Inv-loop μ-loop) where
   onward T q h l = c .before .loop .inv .2 T q (omega (arith, c .loop-test .taken)) l
 
   piece-in : getD (c .before .before .args .order .now) (c .before .loop .p - 1) 0 < 256
-  piece-in = omega (arith, turn-inside _ _ _ _ _ _ _ _ _ asked _ place-in (c .before .loop .moments) (onward asked), few)
+  piece-in = omega (
+    arith,
+    turn-inside _ _ _ _ _ _ _ _ _ asked _ place-in (c .before .loop .moments) (onward asked),
+    few,
+  )
 
 mul-i : tie.Need-mul-i Inv-loop μ-loop
 mul-i c = omega (arith, place-in c, few c)

@@ -1,7 +1,7 @@
 -- `piece_moment` walks the chain of the links from the piece. The loop's invariant: the links that are left make of the
 -- least moment so far what all of them make of the due.
 use Prim.Native.Nat.{ℕ, _-_, _<_}
-use mathlib.Core.List.{_∷_}
+use mathlib.Core.List.{List, _∷_}
 use mathlib.Core.Path.{_≡_, ap, _∙_}
 use native.Mathlib.Omega.{arith}
 use lib.IntN.{ℤ, pos}
@@ -17,11 +17,19 @@ use Rattle.moments.specs.Moments.{leftBy, leastLeft}
 use Rattle.moments.proofs.piece_moment.Statement.{statement}
 use Rattle.moments.proofs.piece_moment.Tie as tie
 
+-- The walk has come to place `at` of the chain of piece i: the links below `bound` are left, and they make of the least
+-- moment so far what all links make of the due.
+record Walked (left : ℕ → ℤ) (befores : List ℕ) (i links due : ℕ) (least : ℤ) (at : ℕ) : Type 0 where
+  pub bound : ℕ
+  pub on-chain : OnChain befores i links at bound
+  pub same-least : leastLeft left least (placesWith befores i bound)
+      ≡ leastLeft left (pos due) (placesWith befores i links)
+
 abbrev Inv-loop : tie.InvT-loop
 Inv-loop i desks durations dues afters handovers lasts priors moments least₀ at₀ least at =
-    (N : Net afters lasts priors) → i < N .pieces → (bound : ℕ) × OnChain (N .befores) i (N .links) at bound
-    × (leastLeft (leftBy desks durations afters handovers moments i) (toZ w32 least) (placesWith (N .befores) i bound)
-    ≡ leastLeft (leftBy desks durations afters handovers moments i) (pos (getD dues i 0)) (placesWith (N .befores) i (N .links)))
+    (N : Net afters lasts priors) → i < N .pieces
+    → Walked (leftBy desks durations afters handovers moments i) (N .befores) i (N .links) (getD dues i 0)
+    (toZ w32 least) at
 
 abbrev μ-loop : tie.MeasureT-loop
 μ-loop i desks durations dues afters handovers lasts priors moments least₀ at₀ least at = at
@@ -54,11 +62,12 @@ cast-at c =
 
 loop-holds : tie.Need-loop-holds Inv-loop μ-loop
 loop-holds c = λ N one.
-    let s = c .before .before in (
-      N .links,
-      chain-start (N .befores) (N .links) _ _ (N .chained) (s .args .i) (small s),
-      rw (toZ-pos w32 {n = getD (s .args .dues .now) (s .args .i) 0} (omega (arith, s .pre .due-most))),
-    )
+    let s = c .before .before in
+    record {
+      bound = N .links;
+      on-chain = chain-start (N .befores) (N .links) _ _ (N .chained) (s .args .i) (small s);
+      same-least = rw (toZ-pos w32 {n = getD (s .args .dues .now) (s .args .i) 0} (omega (arith, s .pre .due-most)));
+    }
 
 -- The way back from a turn to the entry, and the walk along the chain there.
 abbrev entry : tie.In-loop Inv-loop μ-loop → tie.Start Inv-loop μ-loop
@@ -70,26 +79,24 @@ lefts c = let a = entry c .args in
 
 module _ (c : tie.In-loop Inv-loop μ-loop) (N : Net (entry c .args .afters .now) (entry c .args .lasts .now)
     (entry c .args .priors .now)) (one : entry c .args .i < N .pieces) where
-  abbrev walk : (bound : ℕ) × OnChain (N .befores) (entry c .args .i) (N .links) (c .before .loop .at) bound
-      × (leastLeft (lefts c)
-      (toZ w32 (c .before .loop .least)) (placesWith (N .befores) (entry c .args .i) bound)
-      ≡ leastLeft (lefts c)
-      (pos (getD (entry c .args .dues .now) (entry c .args .i) 0)) (placesWith (N .befores) (entry c .args .i) (N .links)))
+  abbrev walk : Walked (lefts c) (N .befores) (entry c .args .i) (N .links)
+      (getD (entry c .args .dues .now) (entry c .args .i) 0) (toZ w32 (c .before .loop .least)) (c .before .loop .at)
   walk = c .before .loop .inv N one
 
   link : (c .before .loop .at - 1 < N .links) × (getD (N .befores) (c .before .loop .at - 1) 0 ≡ entry c .args .i)
-  link = on-link (N .befores) (N .links) _ _ (N .chained) _ _ _ (walk .1) (c .loop-test .taken)
+  link = on-link (N .befores) (N .links) _ _ (N .chained) _ _ _ (walk .on-chain) (c .loop-test .taken)
 
   falls : getD (entry c .args .priors .now) (c .before .loop .at - 1) 0 < c .before .loop .at
-  falls = on-falls (N .befores) (N .links) _ _ (N .chained) _ _ _ (walk .1) (c .loop-test .taken)
+  falls = on-falls (N .befores) (N .links) _ _ (N .chained) _ _ _ (walk .on-chain) (c .loop-test .taken)
 
-  onward : OnChain (N .befores) (entry c .args .i) (N .links) (getD (entry c .args .priors .now) (c .before .loop .at - 1) 0)
+  onward : OnChain (N .befores) (entry c .args .i) (N .links)
+      (getD (entry c .args .priors .now) (c .before .loop .at - 1) 0)
       (c .before .loop .at - 1)
-  onward = on-next (N .befores) (N .links) _ _ (N .chained) _ _ _ (walk .1) (c .loop-test .taken)
+  onward = on-next (N .befores) (N .links) _ _ (N .chained) _ _ _ (walk .on-chain) (c .loop-test .taken)
 
-  first : placesWith (N .befores) (entry c .args .i) (walk .0)
+  first : placesWith (N .befores) (entry c .args .i) (walk .bound)
       ≡ (c .before .loop .at - 1) ∷ placesWith (N .befores) (entry c .args .i) (c .before .loop .at - 1)
-  first = on-first (N .befores) (N .links) _ _ (N .chained) _ _ _ (walk .1) (c .loop-test .taken)
+  first = on-first (N .befores) (N .links) _ _ (N .chained) _ _ _ (walk .on-chain) (c .loop-test .taken)
 
 -- The link's place is inside the tables.
 place-in : (c : tie.In-loop Inv-loop μ-loop) → c .before .loop .at - 1 < 1024
@@ -142,18 +149,18 @@ loop-again : tie.Need-loop-again Inv-loop μ-loop
 unfolding leastLeft
 loop-again c = λ N one.
     let t = c .before .before .before in
-    let l = t .before .loop in (
-      l .at - 1,
-      onward t N one,
-      rw (lessened (c .before)) (rw (first t N one) at (walk t N one .2)),
-    )
+    record {
+      bound = t .before .loop .at - 1;
+      on-chain = onward t N one;
+      same-least = rw (lessened (c .before)) (rw (first t N one) at (walk t N one .same-least));
+    }
 
 returns : tie.Need-returns Inv-loop μ-loop
 unfolding leastLeft
 returns c = λ N one.
     let w = c .before .loop .inv N one in
-    let e = on-end (N .befores) (N .links) _ _ (N .chained) _ _ _ (w .1) (c .loop-test .left) in
-    rw e at (w .2)
+    let e = on-end (N .befores) (N .links) _ _ (N .chained) _ _ _ (w .on-chain) (c .loop-test .left) in
+    rw e at (w .same-least)
 
 pub piece-moment-spec : {M : Type 1} → statement M
 piece-moment-spec =

@@ -62,8 +62,9 @@ total : (c : tie.After-delay) →
     ≡ takesOffIn (a .desks .now) (a .durations .now) (a .afters .now) (a .handovers .now) (a .i) (a .k)
 unfolding takesOffIn
 total c =
-    let a = c .before .before .before .before .before .before .before .before .args in
-    let lasting = c .before .before .before .before .before .wide .ensures .0 in
+    let duration = c .before .before .before .before .before in
+    let a = duration .before .before .before .args in
+    let lasting = duration .wide .ensures .0 in
     let handing = c .before .wide2 .ensures .0 in
     let own = eqb (getD (a .desks .now) (a .i) 0) (getD (a .desks .now) (getD (a .afters .now) (a .k) 0) 0) in
     ap₂ (λ x y. x + y) lasting (c .delay .ensures .0 ∙ ap (when own 0) handing)

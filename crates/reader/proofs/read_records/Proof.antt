@@ -37,16 +37,18 @@ add-item c = omega arith
 item-requires : tie.Need-item-requires Inv-loop μ-loop
 item-requires c κs = search needs
 
--- The job read before a turn, and what the file has next.
+-- A turn and the call that it belongs to; the job read before it, and what the file has next.
+abbrev call : tie.At-loop Inv-loop μ-loop → tie.Start Inv-loop μ-loop
+call turn = turn .before .before .before .before .before .before .before .before .before
+
 abbrev job : tie.At-loop Inv-loop μ-loop → Job
-job c =
-    let L = c .loop in
-    jobIn (L .pieces) (L .links) (L .desks) (L .durations) (L .releases) (L .dues) (L .befores) (L .afters) (L .handovers)
+job turn =
+    let L = turn .loop in
+    jobIn (L .pieces) (L .links) (L .desks) (L .durations) (L .releases) (L .dues) (L .befores) (L .afters)
+    (L .handovers)
 
 abbrev next : tie.At-loop Inv-loop μ-loop → Item
-next c =
-    let start = c .before .before .before .before .before .before .before .before .before in
-    itemAt (now (start .args .file)) (c .loop .pieces + c .loop .links) (job c)
+next turn = itemAt (now (call turn .args .file)) (turn .loop .pieces + turn .loop .links) (job turn)
 
 -- The answer of a turn is what the file has next.
 is : (c : tie.After-item Inv-loop μ-loop) → c .item .result ≡ next (c .before)
@@ -57,32 +59,38 @@ is c =
 enum-known-found : tie.Need-enum-known-found Inv-loop μ-loop
 enum-known-found c = search needs
 
--- It is a piece.
-a-piece : (c : tie.After-known-told Inv-loop μ-loop) →
-    next (c .before .before .before .before) ≡ Work (c .before .found .given .0 .0)
+-- It is a piece: the turn, seen from where that is known; and that place, seen from where the piece is in the tables.
+abbrev piece-turn : tie.After-known-told Inv-loop μ-loop → tie.At-loop Inv-loop μ-loop
+piece-turn told = told .before .before .before .before
+
+abbrev piece-told : tie.After-enter-piece Inv-loop μ-loop → tie.After-known-told Inv-loop μ-loop
+piece-told entered = entered .before .before .before .before .before
+
+a-piece : (c : tie.After-known-told Inv-loop μ-loop) → next (piece-turn c) ≡ Work (c .before .found .given .0 .0)
 a-piece c = sym (is (c .before .before .before)) ∙ c .before .found .given .1
 
 enter-piece-requires : tie.Need-enter-piece-requires Inv-loop μ-loop
 enter-piece-requires c κs =
-    let taken = c .before .before .before .before .before .before .before .before .loop .inv in
-    (piece-room taken _ (a-piece (c .before .before .before .before)), taken .piece-tables)
+    let told = c .before .before .before .before in
+    let taken = piece-turn told .loop .inv in
+    (piece-room taken _ (a-piece told), taken .piece-tables)
 
 add-pieces : tie.Need-add-pieces Inv-loop μ-loop
 add-pieces c =
-    let turn = c .before .before .before .before .before .before .before .before .before .before .before .before .before in
-    omega (arith, piece-room (turn .before .before .before .before .loop .inv) _ (a-piece turn))
+    let told = piece-told (c .before .before .before .before .before .before .before .before) in
+    omega (arith, piece-room (piece-turn told .loop .inv) _ (a-piece told))
 
 loop-less : tie.Need-loop-less Inv-loop μ-loop
 loop-less c =
-    let turn = c .before .before .before .before .before .before .before .before .before .before .before .before .before in
-    let taken = turn .before .before .before .before .loop .inv in
-    omega (arith, piece-room taken _ (a-piece turn), taken .few-links)
+    let told = piece-told (c .before .before .before .before .before .before .before .before) in
+    let taken = piece-turn told .loop .inv in
+    omega (arith, piece-room taken _ (a-piece told), taken .few-links)
 
 loop-again : tie.Need-loop-again Inv-loop μ-loop
 loop-again c =
     let entered = c .before .before .before .before .before .before .before .before in
-    let turn = entered .before .before .before .before .before in
-    piece-on (turn .before .before .before .before .loop .inv) _ (a-piece turn) (entered .enter-piece .ensures)
+    let told = piece-told entered in
+    piece-on (piece-turn told .loop .inv) _ (a-piece told) (entered .enter-piece .ensures)
 
 enum-known-found-2 : tie.Need-enum-known-found-2 Inv-loop μ-loop
 enum-known-found-2 c = search needs
@@ -90,43 +98,44 @@ enum-known-found-2 c = search needs
 ended-requires : tie.Need-ended-requires Inv-loop μ-loop
 ended-requires c κs = search needs
 
-abbrev start-of : tie.After-ended Inv-loop μ-loop → tie.Start Inv-loop μ-loop
-start-of c = c .before .before .before .before .before .before .before .before .before .before .before .before .before
+-- It is the end: no table has changed its length.
+abbrev last-turn : tie.After-ended Inv-loop μ-loop → tie.At-loop Inv-loop μ-loop
+last-turn c = c .before .before .before .before
 
 same-length : tie.Need-same-length Inv-loop μ-loop
 same-length c =
-    c .before .before .before .before .loop .inv .piece-tables .desks-long
-    ∙ sym (start-of c .pre .0 .desks-long)
+    let turn = last-turn c in
+    turn .loop .inv .piece-tables .desks-long ∙ sym (call turn .pre .0 .desks-long)
 
 same-length-2 : tie.Need-same-length-2 Inv-loop μ-loop
 same-length-2 c =
-    c .before .before .before .before .loop .inv .piece-tables .durations-long
-    ∙ sym (start-of c .pre .0 .durations-long)
+    let turn = last-turn c in
+    turn .loop .inv .piece-tables .durations-long ∙ sym (call turn .pre .0 .durations-long)
 
 same-length-3 : tie.Need-same-length-3 Inv-loop μ-loop
 same-length-3 c =
-    c .before .before .before .before .loop .inv .piece-tables .releases-long
-    ∙ sym (start-of c .pre .0 .releases-long)
+    let turn = last-turn c in
+    turn .loop .inv .piece-tables .releases-long ∙ sym (call turn .pre .0 .releases-long)
 
 same-length-4 : tie.Need-same-length-4 Inv-loop μ-loop
 same-length-4 c =
-    c .before .before .before .before .loop .inv .piece-tables .dues-long
-    ∙ sym (start-of c .pre .0 .dues-long)
+    let turn = last-turn c in
+    turn .loop .inv .piece-tables .dues-long ∙ sym (call turn .pre .0 .dues-long)
 
 same-length-5 : tie.Need-same-length-5 Inv-loop μ-loop
 same-length-5 c =
-    c .before .before .before .before .loop .inv .link-tables .befores-long
-    ∙ sym (start-of c .pre .1 .befores-long)
+    let turn = last-turn c in
+    turn .loop .inv .link-tables .befores-long ∙ sym (call turn .pre .1 .befores-long)
 
 same-length-6 : tie.Need-same-length-6 Inv-loop μ-loop
 same-length-6 c =
-    c .before .before .before .before .loop .inv .link-tables .afters-long
-    ∙ sym (start-of c .pre .1 .afters-long)
+    let turn = last-turn c in
+    turn .loop .inv .link-tables .afters-long ∙ sym (call turn .pre .1 .afters-long)
 
 same-length-7 : tie.Need-same-length-7 Inv-loop μ-loop
 same-length-7 c =
-    c .before .before .before .before .loop .inv .link-tables .handovers-long
-    ∙ sym (start-of c .pre .1 .handovers-long)
+    let turn = last-turn c in
+    turn .loop .inv .link-tables .handovers-long ∙ sym (call turn .pre .1 .handovers-long)
 
 returns : tie.Need-returns Inv-loop μ-loop
 returns c =
@@ -135,32 +144,38 @@ returns c =
     ends (asked .before .loop .inv) i (sym (is asked)) (no-work i (c .before .before .match .keys2))
     (no-tie i (c .before .match2 .keys2)) (c .ended .result) (c .ended .ensures)
 
--- It is a link.
-a-link : (c : tie.After-known-told2 Inv-loop μ-loop) →
-    next (c .before .before .before .before .before) ≡ Tie (c .before .found2 .given .0 .0)
+-- It is a link: the turn and the place where that is known, as of a piece.
+abbrev link-turn : tie.After-known-told2 Inv-loop μ-loop → tie.At-loop Inv-loop μ-loop
+link-turn told = told .before .before .before .before .before
+
+abbrev link-told : tie.After-enter-link Inv-loop μ-loop → tie.After-known-told2 Inv-loop μ-loop
+link-told entered = entered .before .before .before .before
+
+a-link : (c : tie.After-known-told2 Inv-loop μ-loop) → next (link-turn c) ≡ Tie (c .before .found2 .given .0 .0)
 a-link c = sym (is (c .before .before .before .before)) ∙ c .before .found2 .given .1
 
 enter-link-requires : tie.Need-enter-link-requires Inv-loop μ-loop
 enter-link-requires c κs =
-    let taken = c .before .before .before .before .before .before .before .before .loop .inv in
-    (link-room taken _ (a-link (c .before .before .before)), taken .link-tables)
+    let told = c .before .before .before in
+    let taken = link-turn told .loop .inv in
+    (link-room taken _ (a-link told), taken .link-tables)
 
 add-links : tie.Need-add-links Inv-loop μ-loop
 add-links c =
-    let turn = c .before .before .before .before .before .before .before .before .before .before in
-    omega (arith, link-room (turn .before .before .before .before .before .loop .inv) _ (a-link turn))
+    let told = link-told (c .before .before .before .before .before .before) in
+    omega (arith, link-room (link-turn told .loop .inv) _ (a-link told))
 
 loop-less-2 : tie.Need-loop-less-2 Inv-loop μ-loop
 loop-less-2 c =
-    let turn = c .before .before .before .before .before .before .before .before .before .before in
-    let taken = turn .before .before .before .before .before .loop .inv in
-    omega (arith, link-room taken _ (a-link turn), taken .few-pieces)
+    let told = link-told (c .before .before .before .before .before .before) in
+    let taken = link-turn told .loop .inv in
+    omega (arith, link-room taken _ (a-link told), taken .few-pieces)
 
 loop-again-2 : tie.Need-loop-again-2 Inv-loop μ-loop
 loop-again-2 c =
     let entered = c .before .before .before .before .before .before in
-    let turn = entered .before .before .before .before in
-    link-on (turn .before .before .before .before .before .loop .inv) _ (a-link turn) (entered .enter-link .ensures)
+    let told = link-told entered in
+    link-on (link-turn told .loop .inv) _ (a-link told) (entered .enter-link .ensures)
 
 pub read-records-spec : {M : Type 1} → statement M
 read-records-spec =

@@ -1,4 +1,5 @@
--- `put_digits` meets its contract, case by case of the definition; what falls is the number of digits that may still come.
+-- `put_digits` meets its contract, case by case of the definition; what falls is the number of digits that may still
+-- come.
 use mathlib.Core.Path.{_≡_, _∙_}
 use native.Mathlib.Omega.{arith}
 use lib.ListN.{length-set}
@@ -73,7 +74,8 @@ put-digits-returns-2 : (t : ℕ) → put-digits-lts.Need-returns-2 (
 ) (put-digits-at t) put-digits.Post
 put-digits-returns-2 t c =
     let a = c .before .before .before .args in
-    rw (one-digit (a .most) (a .n) (omega arith) (omega arith)) (puts-byte (puts-none (a .text .now) (a .at)) (48 + a .n))
+    rw (one-digit (a .most) (a .n) (omega arith) (omega arith))
+    (puts-byte (puts-none (a .text .now) (a .at)) (48 + a .n))
 
 put-digits-sub-put-digits : (t : ℕ) → put-digits-lts.Need-sub-put-digits (
   put-digits-below t,
@@ -127,7 +129,8 @@ put-digits-same-length-2 : (t : ℕ) → put-digits-lts.Need-same-length-2 (
 put-digits-same-length-2 t c =
     let a = c .before .before .before .before .before .before .before .args in
     let put = c .before .before .put-digits .ensures in
-    length-set (c .before .before .put-digits .last .0) (c .before .before .put-digits .result) (48 + a .n % 10) ∙ puts-same put
+    length-set (c .before .before .put-digits .last .0) (c .before .before .put-digits .result) (48 + a .n % 10)
+    ∙ puts-same put
 
 put-digits-returns-3 : (t : ℕ) → put-digits-lts.Need-returns-3 (
   put-digits-below t,

@@ -39,7 +39,8 @@ loop-again c =
     let L = c .before .before .loop in (
       omega arith,
       length-set (L .text) _ _ ∙ L .inv .1,
-      ap (λ l. set l (a .at + L .k) (getD (a .bytes .now) (L .k) 0)) (L .inv .2) ∙ puts-more (a .text .now) (a .bytes .now) (a .at) (L .k) (omega arith),
+      ap (λ l. set l (a .at + L .k) (getD (a .bytes .now) (L .k) 0)) (L .inv .2) ∙ puts-more (a .text .now)
+          (a .bytes .now) (a .at) (L .k) (omega arith),
     )
 
 add-result : tie.Need-add-result Inv-loop μ-loop

@@ -11,7 +11,8 @@ use Rattle.rules.specs.Writing.{linkRecord}
 use Rattle.rules.specs.Bytes.{word, planRecord}
 use Rattle.laws.proofs.Reread.{link-sized}
 use Rattle.forms.specs.Written.{linkBytes}
-use Rattle.forms.proofs.Records.{put-more, two-halves}
+use Rattle.records.proofs.InARow.{put-more}
+use Rattle.forms.proofs.Records.{two-halves}
 use Rattle.forms.proofs.rows.put_links.Statement.{statement}
 use Rattle.forms.proofs.rows.put_links.Tie as tie
 

@@ -13,7 +13,7 @@ use Rattle.rules.specs.Writing.{pieceRecord}
 use Rattle.rules.specs.Bytes.{word}
 use Rattle.laws.proofs.Reread.{piece-sized}
 use Rattle.forms.specs.Written.{pieceBytes}
-use Rattle.forms.proofs.Records.{put-more}
+use Rattle.records.proofs.InARow.{put-more}
 use Rattle.forms.proofs.rows.put_pieces.Statement.{statement}
 use Rattle.forms.proofs.rows.put_pieces.Tie as tie
 

@@ -1,9 +1,12 @@
 -- `judge::faults::piece_zero_fault` meets its contract: the last four bytes by the number in them.
 use denote.Ref.{now}
-use native.Mathlib.Omega.{arith}
+use mathlib.Core.Bool.{false, not}
+use mathlib.Core.Path.{ap, _∙_}
+use lib.Dec.{eqb}
+use Rattle.rules.specs.Words.{when}
 use Rattle.rules.specs.File.{byteAt}
+use Rattle.judge.proofs.Zeros.{word-fault}
 use Rattle.rules.specs.Reading.{zeroFault}
-use Rattle.judge.proofs.Zeros.{zeros, not-zeros}
 use borrow.Author.Needs.{needs}
 use Rattle.judge.proofs.faults.piece_zero_fault.Statement.{statement}
 use Rattle.judge.proofs.faults.piece_zero_fault.Tie as tie
@@ -11,17 +14,15 @@ use Rattle.judge.proofs.faults.piece_zero_fault.Tie as tie
 word-at-requires : tie.Need-word-at-requires
 word-at-requires c κs = search needs
 
+first-found-requires : tie.Need-first-found-requires
+first-found-requires c κs = search needs
+
 returns : tie.Need-returns
-unfolding zeroFault
+unfolding zeroFault when
 returns c =
     let s = now (c .before .before .before .args .r) in
-    rw (not-zeros (byteAt s 12) (byteAt s 13) (byteAt s 14) (byteAt s 15) _ (omega arith))
-
-returns-2 : tie.Need-returns-2
-unfolding zeroFault
-returns-2 c =
-    let s = now (c .before .before .before .args .r) in
-    rw (zeros (byteAt s 12) (byteAt s 13) (byteAt s 14) (byteAt s 15) _ (omega arith))
+    c .first-found .ensures ∙ ap (λ w. when (not (eqb w 0)) 8 0) (c .before .word-at .ensures)
+    ∙ word-fault (byteAt s 12) (byteAt s 13) (byteAt s 14) (byteAt s 15) 8 false
 
 pub piece-zero-fault-spec : {M : Type 1} → statement M
-piece-zero-fault-spec = tie.close (tie.spec word-at-requires returns returns-2)
+piece-zero-fault-spec = tie.close (tie.spec word-at-requires first-found-requires returns)

@@ -18,8 +18,11 @@ abbrev μ-loop : tie.MeasureT-loop
 
 loop-holds : tie.Need-loop-holds Inv-loop μ-loop
 loop-holds c =
-    let a = c .before .args in
-    (omega arith, no-run-yet (a .desks .now) (a .pieces .now) (a .froms .now) (a .untils .now) (a .desk) (a .text .now) (a .at))
+    let a = c .before .args in (
+      omega arith,
+      no-run-yet (a .desks .now) (a .pieces .now) (a .froms .now) (a .untils .now) (a .desk) (a .text .now)
+          (a .at),
+    )
 
 put-logged-line-requires : tie.Need-put-logged-line-requires Inv-loop μ-loop
 put-logged-line-requires c κs =
@@ -28,7 +31,8 @@ put-logged-line-requires c κs =
     let p = c .before .before .before .before .pre in
     let more = logged-more (a .desks .now) (a .pieces .now) (a .froms .now) (a .untils .now) (a .desk) in
     let g = grown (λ k. deskLinesIn k (a .desks .now) (a .pieces .now) (a .froms .now) (a .untils .now) (a .desk))
-    (runLineIn (a .desks .now) (a .pieces .now) (a .froms .now) (a .untils .now) (a .desk)) more (L .k) (a .count) (omega arith) in
+    (runLineIn (a .desks .now) (a .pieces .now) (a .froms .now) (a .untils .now) (a .desk)) more (L .k) (a .count)
+    (omega arith) in
     record {
       place = omega (arith, p .0 .few);
       known = p .0 .known (L .k) (omega arith);
@@ -49,7 +53,8 @@ loop-again c =
       line-more (λ k. deskLinesIn k (a .desks .now) (a .pieces .now) (a .froms .now) (a .untils .now) (a .desk))
           (runLineIn (a .desks .now) (a .pieces .now) (a .froms .now) (a .untils .now) (a .desk))
           (logged-more (a .desks .now) (a .pieces .now) (a .froms .now) (a .untils .now) (a .desk))
-          (a .text .now) (a .at) (L .k) (L .text) (L .next) _ _ (L .inv .1) (c .before .before .put-logged-line .ensures),
+          (a .text .now) (a .at) (L .k) (L .text) (L .next) _ _ (L .inv .1)
+          (c .before .before .put-logged-line .ensures),
     )
 
 same-length : tie.Need-same-length Inv-loop μ-loop
@@ -57,7 +62,8 @@ same-length c = puts-same (c .before .loop .inv .1)
 
 returns : tie.Need-returns Inv-loop μ-loop
 returns c =
-    let q : c .before .loop .k ≡ c .before .before .before .args .count = omega arith in rw (← q) (c .before .loop .inv .1)
+    let q : c .before .loop .k ≡ c .before .before .before .args .count = omega arith in
+    rw (← q) (c .before .loop .inv .1)
 
 pub put-desk-lines-spec : {M : Type 1} → statement M
 put-desk-lines-spec =

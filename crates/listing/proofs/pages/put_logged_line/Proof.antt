@@ -20,7 +20,8 @@ element-copy-out-if1 c = search needs
 returns : tie.Need-returns
 returns c =
     let a = c .before .before .before .before .args in
-    no-line (a .desks .now) (a .pieces .now) (a .froms .now) (a .untils .now) (a .desk) (a .k) (ne-eqb _ (a .desk) (c .if1 .taken))
+    no-line (a .desks .now) (a .pieces .now) (a .froms .now) (a .untils .now) (a .desk) (a .k)
+    (ne-eqb _ (a .desk) (c .if1 .taken))
 
 mul-put-run-line : tie.Need-mul-put-run-line
 mul-put-run-line c = search needs
@@ -42,9 +43,11 @@ same-length c = search needs
 
 returns-2 : tie.Need-returns-2
 returns-2 c =
-    let a = c .before .before .before .before .before .before .before .before .before .before .args in
-    own-line (a .desks .now) (a .pieces .now) (a .froms .now) (a .untils .now) (a .desk) (a .k) (eq-eqb _ (a .desk) (c .before .before .before .before .before .before .if1 .left))
-    (c .before .before .put-run-line .ensures)
+    let put = c .before .before in
+    let own = put .before .before .before .before in
+    let a = own .before .before .before .before .args in
+    own-line (a .desks .now) (a .pieces .now) (a .froms .now) (a .untils .now) (a .desk) (a .k)
+    (eq-eqb _ (a .desk) (own .if1 .left)) (put .put-run-line .ensures)
 
 pub put-logged-line-spec : {M : Type 1} → statement M
 put-logged-line-spec =

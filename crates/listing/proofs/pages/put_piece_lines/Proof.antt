@@ -23,8 +23,12 @@ abbrev μ-loop : tie.MeasureT-loop
 
 loop-holds : tie.Need-loop-holds Inv-loop μ-loop
 loop-holds c =
-    let a = c .before .args in
-    (omega arith, refl, no-piece-yet (a .desks .now) (a .starts .now) (a .finishes .now) (a .latests .now) (a .text .now) (a .at))
+    let a = c .before .args in (
+      omega arith,
+      refl,
+      no-piece-yet (a .desks .now) (a .starts .now) (a .finishes .now) (a .latests .now)
+          (a .text .now) (a .at),
+    )
 
 element-copy-out-put-piece-line : tie.Need-element-copy-out-put-piece-line Inv-loop μ-loop
 element-copy-out-put-piece-line c = search needs
@@ -49,11 +53,20 @@ element-copy-out-put-piece-line-4 c = search needs
 
 put-piece-line-requires : tie.Need-put-piece-line-requires Inv-loop μ-loop
 put-piece-line-requires c κs =
-    let a = c .before .before .before .before .before .before .before .before .args in
-    let L = c .before .before .before .before .before .before .loop in
-    let p = c .before .before .before .before .before .before .before .before .pre in (
-      omega (arith, L .inv .2 .past, L .inv .1, p .1, pieces-most (a .desks .now) (a .starts .now) (a .finishes .now) (a .latests .now) (L .i)),
-      rw (toZ-ofZ w32 (getD (a .latests .now) (L .i) (pos 0)) (record { sfits = c .put-piece-line-arg5 .given })) (p .2 (L .i) (omega arith)),
+    let turn = c .before .before .before .before .before .before in
+    let start = turn .before .before in
+    let a = start .args in
+    let L = turn .loop in
+    let p = start .pre in (
+      omega (
+        arith,
+        L .inv .2 .past,
+        L .inv .1,
+        p .1,
+        pieces-most (a .desks .now) (a .starts .now) (a .finishes .now) (a .latests .now) (L .i),
+      ),
+      rw (toZ-ofZ w32 (getD (a .latests .now) (L .i) (pos 0)) (record { sfits = c .put-piece-line-arg5 .given }))
+          (p .2 (L .i) (omega arith)),
     )
 
 add-i : tie.Need-add-i Inv-loop μ-loop
@@ -65,11 +78,16 @@ loop-less c = omega arith
 loop-again : tie.Need-loop-again Inv-loop μ-loop
 unfolding pieceLineIn
 loop-again c =
-    let a = c .before .before .before .before .before .before .before .before .before .before .before .args in
-    let L = c .before .before .before .before .before .before .before .before .before .loop in
-    let put = simp (toZ-ofZ w32 (getD (a .latests .now) (L .i) (pos 0)) (record { sfits = c .before .before .before .put-piece-line-arg5 .given })) at (c .before .before .put-piece-line .ensures) in (
+    let line = c .before .before in
+    let turn = line .before .before .before .before .before .before .before in
+    let a = turn .before .before .args in
+    let L = turn .loop in
+    let latest = toZ-ofZ w32 (getD (a .latests .now) (L .i) (pos 0))
+    (record { sfits = line .before .put-piece-line-arg5 .given }) in
+    let put = simp latest at (line .put-piece-line .ensures) in (
       omega arith,
-      puts-same {xs = pieceLineIn (a .desks .now) (a .starts .now) (a .finishes .now) (a .latests .now) (L .i)} put ∙ L .inv .1,
+      puts-same {xs = pieceLineIn (a .desks .now) (a .starts .now) (a .finishes .now) (a .latests .now) (L .i)} put
+          ∙ L .inv .1,
       line-more (λ k. pieceLinesIn k (a .desks .now) (a .starts .now) (a .finishes .now) (a .latests .now))
           (pieceLineIn (a .desks .now) (a .starts .now) (a .finishes .now) (a .latests .now))
           (pieces-more (a .desks .now) (a .starts .now) (a .finishes .now) (a .latests .now))

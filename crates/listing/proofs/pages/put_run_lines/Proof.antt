@@ -18,15 +18,19 @@ abbrev μ-loop : tie.MeasureT-loop
 
 loop-holds : tie.Need-loop-holds Inv-loop μ-loop
 loop-holds c =
-    let a = c .before .args in
-    (omega arith, no-desk-yet (a .desks .now) (a .pieces .now) (a .froms .now) (a .untils .now) (a .count) (a .text .now) (a .at))
+    let a = c .before .args in (
+      omega arith,
+      no-desk-yet (a .desks .now) (a .pieces .now) (a .froms .now) (a .untils .now) (a .count)
+          (a .text .now) (a .at),
+    )
 
 put-desk-lines-requires : tie.Need-put-desk-lines-requires Inv-loop μ-loop
 put-desk-lines-requires c κs =
     let a = c .before .before .before .before .args in
     let L = c .before .before .loop in
     let p = c .before .before .before .before .pre in
-    let r = desk-room (a .desks .now) (a .pieces .now) (a .froms .now) (a .untils .now) (a .count) (L .desk) 32 (omega arith) in
+    let r = desk-room (a .desks .now) (a .pieces .now) (a .froms .now) (a .untils .now) (a .count) (L .desk) 32
+    (omega arith) in
     (p .0, omega (arith, r, L .inv .1 .past, puts-same (L .inv .1), p .1))
 
 add-desk : tie.Need-add-desk Inv-loop μ-loop
@@ -43,7 +47,8 @@ loop-again c =
       line-more (λ d. runLinesIn d (a .count) (a .desks .now) (a .pieces .now) (a .froms .now) (a .untils .now))
           (deskLinesIn (a .count) (a .desks .now) (a .pieces .now) (a .froms .now) (a .untils .now))
           (desks-more (a .desks .now) (a .pieces .now) (a .froms .now) (a .untils .now) (a .count))
-          (a .text .now) (a .at) (L .desk) (L .text) (L .next) _ _ (L .inv .1) (c .before .before .put-desk-lines .ensures),
+          (a .text .now) (a .at) (L .desk) (L .text) (L .next) _ _ (L .inv .1)
+          (c .before .before .put-desk-lines .ensures),
     )
 
 same-length : tie.Need-same-length Inv-loop μ-loop

@@ -6,7 +6,7 @@ use native.Mathlib.Omega.{arith}
 use borrow.Author.Needs.{needs}
 use lib.ListN.{getD}
 use Rattle.rules.specs.Words.{greater, greatest, below}
-use Rattle.output.proofs.FigureLaws.{largest-more}
+use Rattle.output.proofs.FigureLaws.{max-is, largest-more}
 use Rattle.output.proofs.figures.largest_finish.Statement.{statement}
 use Rattle.output.proofs.figures.largest_finish.Tie as tie
 
@@ -20,14 +20,14 @@ loop-holds : tie.Need-loop-holds Inv-loop μ-loop
 unfolding greatest below
 loop-holds c = (omega arith, refl)
 
-mul-larger : tie.Need-mul-larger Inv-loop μ-loop
-mul-larger c = search needs
+mul-greater : tie.Need-mul-greater Inv-loop μ-loop
+mul-greater c = search needs
 
-element-copy-out-larger : tie.Need-element-copy-out-larger Inv-loop μ-loop
-element-copy-out-larger c = search needs
+element-copy-out-greater : tie.Need-element-copy-out-greater Inv-loop μ-loop
+element-copy-out-greater c = search needs
 
-larger-requires : tie.Need-larger-requires Inv-loop μ-loop
-larger-requires c κs = search needs
+greater-requires : tie.Need-greater-requires Inv-loop μ-loop
+greater-requires c κs = search needs
 
 add-i : tie.Need-add-i Inv-loop μ-loop
 add-i c = omega arith
@@ -40,7 +40,7 @@ loop-again c =
     let a = c .before .before .before .before .args in
     let L = c .before .before .before .loop in (
       omega arith,
-      c .larger .ensures ∙ ap (λ e. greater e (getD (a .finishes .now) (L .i) 0)) (L .inv .1)
+      c .greater .ensures ∙ max-is _ _ ∙ ap (λ e. greater e (getD (a .finishes .now) (L .i) 0)) (L .inv .1)
           ∙ largest-more (λ k. getD (a .finishes .now) k 0) (L .i),
     )
 
@@ -55,9 +55,9 @@ largest-finish-spec =
     Inv-loop
     μ-loop
     loop-holds
-    mul-larger
-    element-copy-out-larger
-    larger-requires
+    mul-greater
+    element-copy-out-greater
+    greater-requires
     add-i
     loop-less
     loop-again

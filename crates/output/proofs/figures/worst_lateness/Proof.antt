@@ -63,13 +63,14 @@ element-copy-out-lateness-4 c = search needs
 
 lateness-requires-2 : tie.Need-lateness-requires-2 Inv-loop μ-loop
 lateness-requires-2 c κs =
-    let a = c .before .before .before .before .before .before .before .before .args in
-    let L = c .before .before .before .loop in
-    rw (toZ-ofZ w32 (getD (a .latests .now) (L .i) (pos 0)) (record { sfits = c .lateness-arg4 .given }))
-    (c .before .before .before .before .before .before .before .before .pre .1 (L .i) (omega arith))
+    let turn = c .before .before .before in
+    let start = turn .before .before .before .before .before in
+    let L = turn .loop in
+    rw (toZ-ofZ w32 (getD (start .args .latests .now) (L .i) (pos 0)) (record { sfits = c .lateness-arg4 .given }))
+    (start .pre .1 (L .i) (omega arith))
 
-later-requires : tie.Need-later-requires Inv-loop μ-loop
-later-requires c κs = search needs
+greater-requires : tie.Need-greater-requires Inv-loop μ-loop
+greater-requires c κs = search needs
 
 add-i : tie.Need-add-i Inv-loop μ-loop
 add-i c = omega arith
@@ -79,19 +80,21 @@ loop-less c = omega arith
 
 loop-again : tie.Need-loop-again Inv-loop μ-loop
 loop-again c =
-    let a = c .before .before .before .before .before .before .before .before .before .before .args in
-    let L = c .before .before .before .before .before .loop in
-    let this-piece : toZ w32 (ofZ w32 (c .before .lateness2 .result))
+    let late = c .before in
+    let turn = late .before .before .before .before in
+    let a = turn .before .before .before .before .before .args in
+    let L = turn .loop in
+    let this-piece : toZ w32 (ofZ w32 (late .lateness2 .result))
     ≡ latenessIn (a .finishes .now) (a .latests .now) (L .i) =
-    toZ-ofZ w32 (c .before .lateness2 .result) (record { sfits = c .before .lateness2 .ok })
-    ∙ c .before .lateness2 .ensures
+    toZ-ofZ w32 (late .lateness2 .result) (record { sfits = late .lateness2 .ok })
+    ∙ late .lateness2 .ensures
     ∙ ap (λ z. latenessOf (getD (a .finishes .now) (L .i) 0) z)
     (toZ-ofZ w32 (getD (a .latests .now) (L .i) (pos 0))
-    (record { sfits = c .before .before .lateness-arg4 .given })) in (
+    (record { sfits = late .before .lateness-arg4 .given })) in (
       omega arith,
       omega arith,
-      toZ-ofZ w32 (c .later .result) (record { sfits = c .later .ok }) ∙ c .later .ensures
-          ∙ ap (λ z. greaterZ z (toZ w32 (ofZ w32 (c .before .lateness2 .result)))) (L .inv .2)
+      toZ-ofZ w32 (c .greater .result) (record { sfits = c .greater .ok }) ∙ c .greater .ensures
+          ∙ ap (λ z. greaterZ z (toZ w32 (ofZ w32 (late .lateness2 .result)))) (L .inv .2)
           ∙ ap (greaterZ (worstOf (map (latenessIn (a .finishes .now) (a .latests .now)) (below (L .i))))) this-piece
           ∙ worst-more (latenessIn (a .finishes .now) (a .latests .now)) (L .i) (omega arith),
     )
@@ -117,7 +120,7 @@ worst-lateness-spec =
     mul-lateness-2
     element-copy-out-lateness-4
     lateness-requires-2
-    later-requires
+    greater-requires
     add-i
     loop-less
     loop-again

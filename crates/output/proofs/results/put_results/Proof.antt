@@ -65,14 +65,16 @@ loop-less c = search needs
 
 loop-again : tie.Need-loop-again Inv-loop μ-loop
 loop-again c =
-    let a = c .before .before .before .before .before .before .before .before .before .before .before .before .args in
-    let L = c .before .before .before .before .before .before .before .before .before .before .loop in
-    let signed = simp (toZ-ofZ w32 (getD (a .latests .now) (L .i) (pos 0))
-    (record { sfits = c .before .before .before .before .before .before .before .before .signed-word-arg .given })) at
-    (c .before .before .before .before .before .before .before .signed-word .ensures) in
+    let put = c .before .before in
+    let word = put .before .before .before .before .before in
+    let turn = word .before .before .before in
+    let a = turn .before .before .args in
+    let L = turn .loop in
+    let latest = toZ-ofZ w32 (getD (a .latests .now) (L .i) (pos 0))
+    (record { sfits = word .before .signed-word-arg .given }) in
+    let signed = simp latest at (word .signed-word .ensures) in
     let w = results-step (a .desks .now) (a .starts .now) (a .finishes .now) (a .latests .now) (a .buffer .now)
-    (L .buffer) _ (L .i) _
-    (L .inv .2) signed (c .before .before .put-record .ensures) in
+    (L .buffer) _ (L .i) _ (L .inv .2) signed (put .put-record .ensures) in
     (omega arith, w .0 ∙ L .inv .1, w .1)
 
 same-length : tie.Need-same-length Inv-loop μ-loop

@@ -49,21 +49,24 @@ loop-holds c =
     along-start (a .count) (a .desks .now) (a .pieces .now) (a .froms .now) (a .untils .now) (a .desk) (a .buffer .now)
     (a .at) _ (begins c)
 
--- In the loop the chain has come to a run.
+-- A turn: the call that it belongs to, and the run that the chain has come to.
+abbrev start : tie.In-loop Inv-loop μ-loop → tie.Start Inv-loop μ-loop
+start c = c .before .before .before .before .before
+
 here : (c : tie.In-loop Inv-loop μ-loop) →
     let a = c .before .before .before .before .before .args in
     let L = c .before .loop in
     Here (a .count) (a .desks .now) (a .pieces .now) (a .froms .now) (a .untils .now) (a .desk) (a .buffer .now) (a .at)
     (L .buffer) (L .next) (L .run - 1)
-here c =
-    let a = c .before .before .before .before .before .args in
-    let L = c .before .loop in
-    along-here (a .count) (a .desks .now) (a .pieces .now) (a .froms .now) (a .untils .now) (a .desk) (a .buffer .now)
-    (a .at) (L .buffer) (L .next) (L .run) (L .run - 1) (L .inv) (omega arith)
+here c = along-here (c .before .loop .run - 1) (c .before .loop .inv) (omega arith)
 
 -- The run's place is within the log.
 within : (c : tie.In-loop Inv-loop μ-loop) → c .before .loop .run - 1 < 512
-within c = omega (arith, here c .place, c .before .before .before .before .before .pre .0 .0 .few)
+within c = omega (arith, here c .place, start c .pre .0 .0 .few)
+
+-- The record's end is within the buffer, and so a number of the machine.
+behind : (c : tie.In-loop Inv-loop μ-loop) → c .before .loop .next + 16 < 18446744073709551616
+behind c = let call = start c in omega (arith, here c .room, call .pre .1)
 
 sub-k : tie.Need-sub-k Inv-loop μ-loop
 sub-k c = omega arith
@@ -88,67 +91,52 @@ element-copy-out-put-record-3 c = omega (arith, within (c .before .before .befor
 
 put-record-requires : tie.Need-put-record-requires Inv-loop μ-loop
 put-record-requires c κs =
-    let inside = c .before .before .before .before in
-    let at = here inside in
-    omega (arith, at .room, at .logged .same, inside .before .before .before .before .before .pre .1)
+    let turn = c .before .before .before .before in
+    omega (arith, here turn .room, here turn .logged .same, start turn .pre .1)
+
+-- The turn whose record was put.
+abbrev turn-of : tie.After-put-record Inv-loop μ-loop → tie.In-loop Inv-loop μ-loop
+turn-of put = put .before .before .before .before .before
 
 add-next : tie.Need-add-next Inv-loop μ-loop
-add-next c =
-    let start = c .before .before .before .before .before .before .before .before .before .before .before .before in
-    let at = here (c .before .before .before .before .before .before .before) in
-    omega (arith, at .room, start .pre .1)
+add-next c = omega (arith, behind (turn-of (c .before .before)))
 
 mul-run-2 : tie.Need-mul-run-2 Inv-loop μ-loop
-mul-run-2 c = omega (arith, within (c .before .before .before .before .before .before .before))
+mul-run-2 c = omega (arith, within (turn-of (c .before .before)))
 
 element-copy-out-run-2 : tie.Need-element-copy-out-run-2 Inv-loop μ-loop
-element-copy-out-run-2 c = omega (arith, within (c .before .before .before .before .before .before .before))
+element-copy-out-run-2 c = omega (arith, within (turn-of (c .before .before)))
 
 cast-run-2 : tie.Need-cast-run-2 Inv-loop μ-loop
 cast-run-2 c =
-    let inside = c .before .before .before .before .before .before .before .before in
-    let L = inside .before .loop in
-    let start = inside .before .before .before .before .before in
-    let a = start .args in
-    let k = L .run - 1 in
+    let turn = turn-of (c .before .before .before) in
+    let P = start turn .pre .0 in
+    let a = start turn .args in
+    let k = turn .before .loop .run - 1 in
     let desk = getD (a .desks .now) (getD (a .pieces .now) k 0) 0 in
     omega (
       arith,
-      start .pre .0 .1 .goes-on k (omega arith) (here inside .place),
+      P .1 .goes-on k (omega arith) (here turn .place),
       next-most (a .desks .now) (a .pieces .now) desk (a .count - (k + 1)) (k + 1),
-      start .pre .0 .0 .few,
-      here inside .place,
+      P .0 .few,
+      here turn .place,
     )
 
 loop-less : tie.Need-loop-less Inv-loop μ-loop
 loop-less c =
-    let inside = c .before .before .before .before .before .before .before .before in
-    let L = inside .before .loop in
-    let start = inside .before .before .before .before .before in
-    let a = start .args in
-    along-less (a .count) (a .desks .now) (a .pieces .now) (a .froms .now) (a .untils .now) (a .desk) (a .buffer .now)
-    (a .at) (L .buffer) (L .next) (L .run) (L .run - 1) (a .first .now) (a .later .now) (start .pre .0 .1) (here inside)
-    (omega arith)
+    let turn = turn-of (c .before .before .before) in
+    along-less (start turn .pre .0 .1) (here turn) (turn .before .loop .run) (omega arith)
 
 loop-again : tie.Need-loop-again Inv-loop μ-loop
 loop-again c =
-    let inside = c .before .before .before .before .before .before .before .before in
-    let L = inside .before .loop in
-    let start = inside .before .before .before .before .before in
-    let a = start .args in
-    along-on (a .count) (a .desks .now) (a .pieces .now) (a .froms .now) (a .untils .now) (a .desk) (a .buffer .now)
-    (a .at) (L .buffer) (L .next) (L .run - 1) (a .first .now) (a .later .now) _ (start .pre .0 .1) (here inside)
-    (c .before .before .before .put-record .ensures)
+    let put = c .before .before .before in
+    along-on (start (turn-of put) .pre .0 .1) (here (turn-of put)) _ (put .put-record .ensures)
 
 same-length : tie.Need-same-length Inv-loop μ-loop
 same-length c = c .before .loop .inv .logged .same
 
 returns : tie.Need-returns Inv-loop μ-loop
-returns c =
-    let a = c .before .before .before .before .before .args in
-    let L = c .before .loop in
-    along-end (a .count) (a .desks .now) (a .pieces .now) (a .froms .now) (a .untils .now) (a .desk) (a .buffer .now)
-    (a .at) (L .buffer) (L .next) (L .run) (L .inv) (omega arith)
+returns c = along-end (c .before .loop .inv) (omega arith)
 
 pub put-desk-runs-spec : {M : Type 1} → statement M
 put-desk-runs-spec =

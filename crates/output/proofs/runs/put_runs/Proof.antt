@@ -30,13 +30,15 @@ loop-holds c =
 
 put-desk-runs-requires : tie.Need-put-desk-runs-requires Inv-loop μ-loop
 put-desk-runs-requires c κs =
-    let start = c .before .before .before .before .before .before .before .before .before in
+    let turn = c .before .before .before .before in
+    let chained = turn .before in
+    let start = chained .before .before .before .before in
     let a = start .args in
-    let L = c .before .before .before .before .loop in
+    let L = turn .loop in
     let room = desk-room (a .count) (a .desks .now) (a .pieces .now) (a .froms .now) (a .untils .now) (L .desk) 32
     (omega arith) in
     let all = L .inv .1 in (
-      (start .pre .0, c .before .before .before .before .before .chain-runs .ensures),
+      (start .pre .0, chained .chain-runs .ensures),
       omega (arith, room, all .past, all .same, start .pre .1),
     )
 
@@ -48,11 +50,13 @@ loop-less c = omega arith
 
 loop-again : tie.Need-loop-again Inv-loop μ-loop
 loop-again c =
-    let a = c .before .before .before .before .before .before .before .before .before .before .before .before .args in
-    let L = c .before .before .before .before .before .before .before .loop in (
+    let put = c .before .before in
+    let turn = put .before .before .before .before .before in
+    let a = turn .before .before .before .before .before .args in
+    let L = turn .loop in (
       omega arith,
       one-desk-more (a .count) (a .desks .now) (a .pieces .now) (a .froms .now) (a .untils .now) (a .buffer .now) (a .at)
-          (L .desk) (L .buffer) (L .next) _ _ (L .inv .1) (c .before .before .put-desk-runs .ensures),
+          (L .desk) (L .buffer) (L .next) _ _ (L .inv .1) (put .put-desk-runs .ensures),
     )
 
 same-length : tie.Need-same-length Inv-loop μ-loop

@@ -33,7 +33,8 @@ returns c =
     let second = c .before .before .before .before .before .before in
     let head = second .before .before .before .before .before .before .before .before in
     let a = head .before .before .before .args in
-    record-in-parts (a .buffer .now) (a .at) (a .kind) (a .desk) (a .number) (a .a) (a .b) (a .c) (head .put-head .ensures)
+    record-in-parts (a .buffer .now) (a .at) (a .kind) (a .desk) (a .number) (a .a) (a .b) (a .c)
+    (head .put-head .ensures)
     (second .before .before .before .before .put-word .ensures) (second .put-word2 .ensures)
     (c .before .before .put-word3 .ensures)
 

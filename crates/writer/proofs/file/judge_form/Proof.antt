@@ -57,7 +57,8 @@ returns-3 c =
     record {
       taken = λ z. absurd (omega (arith, z));
       stopped = λ wrong.
-          cut-short (a .pieces .now) (a .links .now) (of-pieces .judge-pieces .result) (of-pieces .judge-pieces .ensures)
+          cut-short (a .pieces .now) (a .links .now) (of-pieces .judge-pieces .result)
+          (of-pieces .judge-pieces .ensures)
           (first .if1 .left) (of-links .judge-links .result) (of-links .judge-links .ensures) (second .if2 .left)
           (ne-eqb (length (a .pieces .now) % 4 + length (a .links .now) % 3) 0 (omega arith));
     }
@@ -71,7 +72,8 @@ returns-4 c =
     let a = of-pieces .before .before .before .args in
     record {
       taken = λ z.
-          form-taken (a .pieces .now) (a .links .now) (of-pieces .judge-pieces .result) (of-pieces .judge-pieces .ensures)
+          form-taken (a .pieces .now) (a .links .now) (of-pieces .judge-pieces .result)
+          (of-pieces .judge-pieces .ensures)
           (first .if1 .left) (of-links .judge-links .result) (of-links .judge-links .ensures) (second .if2 .left)
           (eq-eqb (length (a .pieces .now) % 4 + length (a .links .now) % 3) 0 (omega arith));
       stopped = λ wrong. absurd (wrong refl);

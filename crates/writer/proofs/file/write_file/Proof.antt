@@ -53,8 +53,11 @@ put-pieces-requires : tie.Need-put-pieces-requires
 put-pieces-requires c κs =
     let first = c .before .before in
     let judged = first .before .before in
-    let a = judged .before .before .before .before .args in
-    (omega arith, pieces-held (a .pieces .now) (a .links .now) _ (judged .judge-form .ensures .taken (first .if1 .left)))
+    let a = judged .before .before .before .before .args in (
+      omega arith,
+      pieces-held (a .pieces .now) (a .links .now) _
+          (judged .judge-form .ensures .taken (first .if1 .left)),
+    )
 
 put-links-requires : tie.Need-put-links-requires
 put-links-requires c κs =

@@ -1,8 +1,8 @@
--- `later` meets its contract: the test is the definition's.
+-- `numbers::signed::greater` meets its contract: the test is the definition's.
 use mir.Facts.{toZ-ofZ}
 use Rattle.rules.specs.Words.{when, greaterZ}
-use Rattle.output.proofs.figures.later.Statement.{statement}
-use Rattle.output.proofs.figures.later.Tie as tie
+use Rattle.numbers.proofs.signed.greater.Statement.{statement}
+use Rattle.numbers.proofs.signed.greater.Tie as tie
 
 returns : tie.Need-returns
 unfolding greaterZ
@@ -16,5 +16,5 @@ returns-2 c =
     let t = simp (toZ-ofZ (c .before .fits .a), toZ-ofZ (c .before .fits .b)) at (c .if1 .left) in
     rw (toZ-ofZ (c .before .fits .a), t, when)
 
-pub later-spec : {M : Type 1} → statement M
-later-spec = tie.close (tie.spec returns returns-2)
+pub greater-spec : {M : Type 1} → statement M
+greater-spec = tie.close (tie.spec returns returns-2)

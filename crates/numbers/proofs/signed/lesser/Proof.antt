@@ -1,8 +1,8 @@
--- `lesser` meets its contract: the test is the definition's.
+-- `numbers::signed::lesser` meets its contract: the test is the definition's.
 use mir.Facts.{toZ-ofZ}
 use Rattle.rules.specs.Words.{when, lesserZ}
-use Rattle.moments.proofs.lesser.Statement.{statement}
-use Rattle.moments.proofs.lesser.Tie as tie
+use Rattle.numbers.proofs.signed.lesser.Statement.{statement}
+use Rattle.numbers.proofs.signed.lesser.Tie as tie
 
 returns : tie.Need-returns
 unfolding lesserZ
