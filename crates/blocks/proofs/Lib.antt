@@ -1,7 +1,4 @@
-pub mod Sorting
-pub mod Rising
-pub mod Worst
-pub mod Recording
+pub mod Hours
 pub mod DeskSheet
 pub mod FromPlan
 pub mod Owning

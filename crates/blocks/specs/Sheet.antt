@@ -17,7 +17,7 @@ use Rattle.method.specs.Board.{runsIn}
 use Rattle.blocksteps.specs.Listed.{tiedIn}
 use Rattle.blocksteps.specs.Aside.{Tied}
 use Rattle.ready.specs.Planned.{Planned}
-use Rattle.blocks.specs.Rows.{BlockRow, rowsIn}
+use Rattle.blockrows.specs.Rows.{BlockRow, rowsIn}
 
 -- The tables hold job J, sound and without a ring: its desks, durations, raised ready moments and latest moments, and the
 -- links between two pieces of desk d.
@@ -34,7 +34,7 @@ pub record Entered (J : Job) (d n m : ℕ) (desks durations befores afters ready
 
 -- What the sheet of desk d says of a block.
 unfoldable pub sheetRow : Job → ℕ → Block → BlockRow
-unfolding nextOpen openEnd blockEnd
+unfolding blockEnd
 sheetRow J d B =
     record { count = length (B .members); from = nextOpen J d (B .from); end = blockEnd (openEnd J d) B }
 

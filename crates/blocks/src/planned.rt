@@ -7,7 +7,7 @@ use ready::raise::raised_moments;
 ghost use Rattle.rules.specs.Job.{Job};
 ghost use Rattle.links.specs.Rings.{Walkable};
 ghost use Rattle.method.specs.Board.{Tables};
-ghost use Rattle.blocks.specs.Rows.{RowTables};
+ghost use Rattle.blockrows.specs.Rows.{RowTables};
 ghost use Rattle.blocks.specs.Sheet.{Laid, SheetOf};
 
 pub fn planned_sheet(

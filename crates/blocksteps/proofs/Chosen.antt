@@ -1,6 +1,6 @@
 -- Who is set aside, looked for from the last piece of a block to the first: the best of those behind gives the best of all.
 -- And the list without it. Assumes nothing.
-use Prim.Native.Nat.{ℕ, suc, _+_, _≤_, _<_}
+use Prim.Native.Nat.{ℕ, zero, suc, _+_, _≤_, _<_}
 use mathlib.Core.Bool.{Bool, true, false, not, _&&_, _||_}
 use mathlib.Core.List.{List, [], _∷_, _++_, map, append-nil, List·Memᴰ as Mem, List·Memᴰ·head as here, List·Memᴰ·tail as there}
 use mathlib.Core.Option.{Option, none, some, Option·none-ne-some, Option·some-injective}
@@ -16,7 +16,7 @@ use lib.Signed.{ltZ, leZ}
 use mir.Syntax.{w32}
 use mir.Val.{SFits, toZ, ofZ}
 use mir.Facts.{toZ-ofZ}
-use Rattle.rules.specs.Words.{when, keep, oneOf}
+use Rattle.rules.specs.Words.{when, keep, row, oneOf}
 use Rattle.rules.specs.Entries.{Entry}
 use Rattle.rules.specs.Blocks.{withoutFollower, costsLess, cheaper, cheapest, setAside, others}
 use Rattle.laws.proofs.Words.{by-test, when-true, when-false, mem-keep, oneOf-intro}
@@ -192,7 +192,15 @@ others-are entry named ids from work piece = rw (named piece) (go ids)
         (λ e. rw (same ∙ e, e, when) (go l))
         (λ e. rw (same ∙ e, e, when) (ap (λ (es : List Entry). entry x ∷ es) (go l)))
 
-keep-snoc : {A : Type 0} (p : A → Bool) (xs : List A) (x : A)
+-- Numbers in a row, and those that pass a test, with one more at the end.
+pub row-snoc : (n a : ℕ) → row a (suc n) ≡ row a n ++ ((a + n) ∷ [])
+unfolding row
+row-snoc zero a = let q : a + 0 ≡ a = omega arith in rw q
+row-snoc (suc n) a =
+    let q : suc a + n ≡ a + suc n = omega arith in
+    ap (λ (l : List ℕ). a ∷ l) (row-snoc n (suc a) ∙ ap (λ (k : ℕ). row (suc a) n ++ (k ∷ [])) q)
+
+pub keep-snoc : {A : Type 0} (p : A → Bool) (xs : List A) (x : A)
     → keep p (xs ++ (x ∷ [])) ≡ keep p xs ++ when (p x) (x ∷ []) []
 unfolding keep
 keep-snoc p [] x = refl
