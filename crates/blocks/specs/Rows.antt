@@ -1,2 +1,3 @@
 -- The rows of a sheet, for those who read one.
-pub use Rattle.blockrows.specs.Rows.{BlockRow, rowAt, rowsIn, RowTables}
+pub use Rattle.blockrows.specs.Rows.{BlockRow, RowTables, rowAt}
+unfoldable pub use Rattle.blockrows.specs.Rows.{rowsIn}
