@@ -1,6 +1,6 @@
 //! Full files of several shapes and a small one, always the same ones. Each full one makes another part of a
 //! planner work hardest: following links, looking over many open pieces, interrupting, cutting blocks,
-//! searching rings, reading.
+//! putting entries in order, searching rings, reading.
 
 /// A file with its name in the table, and a word on it.
 pub struct Shape {
@@ -31,6 +31,13 @@ pub fn all() -> Vec<Shape> {
         shape("desks", "256 pieces on 32 desks, 256 links", mixed(32, 256), Some(31)),
         shape("links", "256 pieces on 4 desks, 1,024 links", mixed(4, 1024), Some(2)),
         shape("nested", "256 pieces on one desk, 511 runs", nested(), Some(9)),
+        shape(
+            "falling",
+            "256 pieces on one desk, the higher its number the sooner a piece is ready",
+            falling(),
+            Some(9),
+        ),
+        shape("shuffled", "the same pieces in a random order", shuffled(), Some(9)),
         shape("ring", "254 pieces behind a ring of two; refused 11 at 254", ring(), None),
         shape(
             "refused",
@@ -72,10 +79,7 @@ fn mixed(desks: u32, links: usize) -> Vec<u8> {
         let (desk, duration) = (chance.below(desks) as u8, 1 + chance.below(40) as u16);
         file.extend(piece(desk, duration, chance.below(400), chance.below(4_000)));
     }
-    let mut order: Vec<u16> = (0..256).collect();
-    for last in (1..256).rev() {
-        order.swap(last, chance.below(last as u32 + 1) as usize);
-    }
+    let order = shuffle(256, &mut chance);
     for _ in 0..links {
         let second = 1 + chance.below(255);
         let first = chance.below(second);
@@ -88,6 +92,29 @@ fn mixed(desks: u32, links: usize) -> Vec<u8> {
 /// Each piece is interrupted by the next and taken up again: as many runs as there can be.
 fn nested() -> Vec<u8> {
     (0..256).flat_map(|number| piece(9, 2, number, 40_000 - number)).collect()
+}
+
+/// The pieces of a desk stand in the file against their order. They make a block each, so that putting them in
+/// order weighs as much as it can.
+fn falling() -> Vec<u8> {
+    (0..256).rev().flat_map(one_after_the_other).collect()
+}
+
+fn shuffled() -> Vec<u8> {
+    shuffle(256, &mut Chance(9)).into_iter().flat_map(one_after_the_other).collect()
+}
+
+fn one_after_the_other(turn: u16) -> Vec<u8> {
+    piece(9, 2, 2 * u32::from(turn), 1_000)
+}
+
+/// The numbers below a limit in a random order.
+fn shuffle(limit: u16, chance: &mut Chance) -> Vec<u16> {
+    let mut order: Vec<u16> = (0..limit).collect();
+    for last in (1..order.len()).rev() {
+        order.swap(last, chance.below(last as u32 + 1) as usize);
+    }
+    order
 }
 
 /// The lowest piece on the ring is found last.

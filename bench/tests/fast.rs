@@ -36,10 +36,12 @@ fn the_shapes_as_described() {
         let shape = shapes.iter().find(|shape| shape.name == name).unwrap();
         fast::plan(&shape.file, &mut [0; desk::ROOM])
     };
-    for name in ["chain", "turned", "wide", "desks", "links", "nested"] {
+    for name in ["chain", "turned", "wide", "desks", "links", "nested", "falling", "shuffled"] {
         assert_eq!((answer(name).number, answer(name).pieces), (0, 256), "{name}");
     }
     assert_eq!(answer("nested").runs, 511);
+    assert_eq!((answer("falling").runs, answer("falling").end), (256, 512));
+    assert_eq!((answer("shuffled").runs, answer("shuffled").end), (256, 512));
     assert_eq!((answer("ring").number, answer("ring").place), (11, 254));
     assert_eq!((answer("refused").number, answer("refused").place), (8, 1279));
 }

@@ -11,12 +11,12 @@ use lib.ListN.{length, getD, take, length-map}
 use lib.Seq.{length-take-le}
 use Rattle.rules.specs.Words.{when, keep, row, below, worstOf}
 use Rattle.rules.specs.Job.{Job, pieceCount, desk, deskPieces}
-use Rattle.rules.specs.Hours.{isOpen, nextOpen, openEnd}
+use Rattle.rules.specs.Hours.{isOpen, openEnd}
 use Rattle.rules.specs.Rings.{linked}
 use Rattle.rules.specs.Urgency.{horizon}
 use Rattle.rules.specs.Runs.{runsFrom}
 use Rattle.rules.specs.Entries.{Entry, entry, entries}
-use Rattle.rules.specs.Blocks.{inOrder, blockEnd, cutInOrder, cut, blockWorked}
+use Rattle.rules.specs.Blocks.{Block, inOrder, blockEnd, cutInOrder, cut, blockWorked}
 use Rattle.rules.specs.BlockSheet.{blocks, blockRuns, blockNumbers}
 use Rattle.laws.proofs.Words.{map-same, mem-row, mem-below, mem-map, below-mem, keep-same}
 use Rattle.laws.proofs.Joined.{map-twice, mem-of-map}
@@ -41,10 +41,23 @@ use Rattle.method.proofs.OfDesk.{works-early, works-own}
 use Rattle.method.proofs.Late.{runLate, worst-of-runs}
 use Rattle.blocksteps.specs.Listed.{entryIn, tiedIn, Listed}
 use Rattle.ready.proofs.FromTables.{raised-most}
-use Rattle.blocks.specs.Ordered.{onDesk, deskList, Lists}
-use Rattle.blocks.specs.Rows.{rowOf, lateIn, Dated}
-use Rattle.blocks.specs.Sheet.{Entered, sheetRow}
-use Rattle.blocks.proofs.Sorting.{desk-mem}
+use Rattle.desklist.specs.Ordered.{onDesk, deskList, Lists}
+use Rattle.method.specs.Sheet.{BlockRow}
+use Rattle.blockrows.specs.Rows.{rowOf, lateIn, Dated}
+use Rattle.blocks.specs.Sheet.{Entered}
+use Rattle.method.specs.Sheet.{sheetRow}
+use Rattle.desklist.proofs.Filling.{desk-mem}
+use Rattle.laws.proofs.Hours.{next-is}
+use Rattle.method.proofs.DeskEnd.{end-is}
+
+-- What the code says of a block is what the sheet says of it.
+row-is : (J : Job) (d : ℕ) (B : Block) → rowOf B ≡ sheetRow J d B
+unfolding sheetRow
+row-is J d B =
+    ap₂ (λ (t : ℕ) (f : ℕ → ℕ → ℕ). row-of t (blockEnd f B)) (sym (next-is J d (B .from))) (sym (end-is J d))
+  where
+    row-of : ℕ → ℕ → BlockRow
+    row-of from end = record { count = length (B .members); from = from; end = end }
 
 module _ (J : Job) (n m : ℕ) (desks durations befores afters ready : List ℕ) (latests : List ℤ)
     (d : ℕ) (e : Entered J d n m desks durations befores afters ready latests) where
@@ -147,8 +160,11 @@ module _ (J : Job) (n m : ℕ) (desks durations befores afters ready : List ℕ)
 
     -- The rows are the blocks of the first cutting.
     pub sheet-rows : map rowOf (cutInOrder deskEnd (map entryOf (take r ids))) ≡ map (sheetRow J d) (blocks J d)
-    unfolding sheetRow blocks cut nextOpen openEnd deskEnd blockEnd
-    sheet-rows = ap (λ (es : List Entry). map rowOf (cutInOrder deskEnd es)) listed-are
+    unfolding blocks cut
+    sheet-rows =
+        ap (λ (es : List Entry). map rowOf (cutInOrder deskEnd es)) listed-are
+        ∙ map-same rowOf (sheetRow J d) (cutInOrder deskEnd (inOrder (entries J d))) (λ B k. row-is J d B)
+        ∙ ap (λ (f : ℕ → ℕ → ℕ). map (sheetRow J d) (cutInOrder f (inOrder (entries J d)))) (sym (end-is J d))
 
     -- The board holds the runs.
     module _ (k : ℕ) (pieces froms untils : List ℕ)
@@ -177,13 +193,15 @@ module _ (J : Job) (n m : ℕ) (desks durations befores afters ready : List ℕ)
           e .tied (x .number) (y .number) (p .0) (q .0) (p .1) (q .1)
 
       board-is : boardIn k pieces froms untils ≡ laid
-      unfolding whom when openEnd deskEnd
+      unfolding whom when
       board-is =
           cuts (length (entries J d)) (omega (arith, ap length (l .are), list-count, entries-count))
           ∙ ap (λ (es : List Entry). around deskEnd (solved (tiedIn m befores afters) deskEnd (length (entries J d))) none 0 0
           (cutInOrder deskEnd es) []) listed-are
           ∙ set-same (tiedIn m befores afters) (linked J) deskEnd (length (entries J d)) none 0 0 (inOrder (entries J d)) []
           same-links
+          ∙ ap (λ (f : ℕ → ℕ → ℕ). around f (solved (linked J) f (length (entries J d))) none 0 0
+          (cutInOrder f (inOrder (entries J d))) []) (sym (end-is J d))
 
       pub sheet-runs : runsIn k pieces froms untils ≡ blockRuns J d
       unfolding blockRuns blockWorked

@@ -6,18 +6,13 @@ use mathlib.Core.Path.{_≡_}
 use lib.IntN.{ℤ, pos}
 use lib.ListN.{length, getD}
 use Rattle.rules.specs.Job.{Job, pieceCount, desk, duration, deskPieces}
-use Rattle.rules.specs.Hours.{nextOpen, openEnd}
 use Rattle.rules.specs.Moments.{latest}
 use Rattle.rules.specs.Rings.{linked, ringPiece}
 use Rattle.rules.specs.Tables.{Sound}
 use Rattle.rules.specs.Entries.{raised}
-use Rattle.rules.specs.Blocks.{Block, blockEnd}
-use Rattle.rules.specs.BlockSheet.{blocks, blockRuns, blockNumbers}
-use Rattle.method.specs.Board.{runsIn}
 use Rattle.blocksteps.specs.Listed.{tiedIn}
 use Rattle.blocksteps.specs.Aside.{Tied}
 use Rattle.ready.specs.Planned.{Planned}
-use Rattle.blocks.specs.Rows.{BlockRow, rowsIn}
 
 -- The tables hold job J, sound and without a ring: its desks, durations, raised ready moments and latest moments, and the
 -- links between two pieces of desk d.
@@ -31,22 +26,6 @@ pub record Entered (J : Job) (d n m : ℕ) (desks durations befores afters ready
   pub duration-is : (i : ℕ) → i < n → duration J i ≡ getD durations i 0
   pub raised-is : (i : ℕ) → i < n → raised J i ≡ getD ready i 0
   pub latest-is : (i : ℕ) → i < n → latest J i ≡ getD latests i (pos 0)
-
--- What the sheet of desk d says of a block.
-unfoldable pub sheetRow : Job → ℕ → Block → BlockRow
-unfolding nextOpen openEnd blockEnd
-sheetRow J d B =
-    record { count = length (B .members); from = nextOpen J d (B .from); end = blockEnd (openEnd J d) B }
-
--- THE SHEET of desk d: its blocks by time, its runs by time, and the worst lateness.
-pub record SheetOf (J : Job) (d : ℕ) (counts starts ends pieces froms untils : List ℕ) (rows runs : ℕ) (worst : ℤ)
-    : Type 0 where
-  pub blocks-are : rowsIn rows counts starts ends ≡ map (sheetRow J d) (blocks J d)
-  pub runs-are : runsIn runs pieces froms untils ≡ blockRuns J d
-  pub worst-is : worst ≡ blockNumbers J d .worst
-  -- No more blocks than pieces, and no more than two runs for each.
-  pub few-blocks : rows ≤ length (deskPieces J d)
-  pub few-runs : runs ≤ 2 * length (deskPieces J d)
 
 -- The tables hold job J and its finished plan, and its latest moments.
 pub record Laid (J : Job) (n m : ℕ) (desks durations releases befores afters handovers finishes : List ℕ)

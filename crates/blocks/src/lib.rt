@@ -1,6 +1,4 @@
 // The block sheet of one desk, by the rule of the page's section on it, from the tables of a finished plan.
-pub mod order;
 pub mod own;
 pub mod planned;
-pub mod rows;
 pub mod sheet;

@@ -7,8 +7,9 @@ use ready::raise::raised_moments;
 ghost use Rattle.rules.specs.Job.{Job};
 ghost use Rattle.links.specs.Rings.{Walkable};
 ghost use Rattle.method.specs.Board.{Tables};
-ghost use Rattle.blocks.specs.Rows.{RowTables};
-ghost use Rattle.blocks.specs.Sheet.{Laid, SheetOf};
+ghost use Rattle.method.specs.Sheet.{RowTables};
+ghost use Rattle.blocks.specs.Sheet.{Laid};
+ghost use Rattle.method.specs.Sheet.{SheetOf};
 
 pub fn planned_sheet(
     n: usize,

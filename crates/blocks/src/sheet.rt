@@ -1,16 +1,17 @@
 // The block sheet of one desk: its pieces in order, the blocks of the first cutting, the runs of the block method, and the
 // worst lateness. It comes out of the block rule alone.
-use crate::order::desk_order;
-use crate::rows::first_blocks;
-use crate::rows::worst_lateness;
+use blockrows::table::first_blocks;
+use blockrows::table::worst_lateness;
 use blocksteps::board::NOBODY;
+use desklist::order::desk_order;
 use solve::sets::cut_set;
 ghost use mathlib.Core.Path.{_≡_};
 ghost use lib.ListN.{length};
 ghost use Rattle.rules.specs.Job.{Job};
 ghost use Rattle.method.specs.Board.{Tables};
-ghost use Rattle.blocks.specs.Rows.{RowTables};
-ghost use Rattle.blocks.specs.Sheet.{Entered, SheetOf};
+ghost use Rattle.method.specs.Sheet.{RowTables};
+ghost use Rattle.blocks.specs.Sheet.{Entered};
+ghost use Rattle.method.specs.Sheet.{SheetOf};
 
 // How many blocks and runs the tables hold, and the worst lateness.
 pub struct Sheet {

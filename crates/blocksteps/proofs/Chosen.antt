@@ -1,6 +1,6 @@
 -- Who is set aside, looked for from the last piece of a block to the first: the best of those behind gives the best of all.
 -- And the list without it. Assumes nothing.
-use Prim.Native.Nat.{ℕ, suc, _+_, _≤_, _<_}
+use Prim.Native.Nat.{ℕ, zero, suc, _+_, _≤_, _<_}
 use mathlib.Core.Bool.{Bool, true, false, not, _&&_, _||_}
 use mathlib.Core.List.{List, [], _∷_, _++_, map, append-nil, List·Memᴰ as Mem, List·Memᴰ·head as here, List·Memᴰ·tail as there}
 use mathlib.Core.Option.{Option, none, some, Option·none-ne-some, Option·some-injective}
@@ -16,9 +16,10 @@ use lib.Signed.{ltZ, leZ}
 use mir.Syntax.{w32}
 use mir.Val.{SFits, toZ, ofZ}
 use mir.Facts.{toZ-ofZ}
-use Rattle.rules.specs.Words.{when, keep, oneOf}
+use Rattle.rules.specs.Words.{when, keep, row, oneOf}
 use Rattle.rules.specs.Entries.{Entry}
 use Rattle.rules.specs.Blocks.{withoutFollower, costsLess, cheaper, cheapest, setAside, others}
+use Rattle.laws.proofs.Order.{costs-less-is}
 use Rattle.laws.proofs.Words.{by-test, when-true, when-false, mem-keep, oneOf-intro}
 use Rattle.laws.proofs.Joined.{mem-of-map}
 use Rattle.laws.proofs.Sound.{place-mem}
@@ -61,21 +62,25 @@ module _ (latests : List ℤ) (best i : ℕ) (small : i < 256) where
       || (leZ (getD latests y (pos 0)) (getD latests x (pos 0)) && ltb y x)
 
   pub best-stays : best < 256 → less best i ≡ true → Cheaper latests best i best
-  unfolding optional cheaper costsLess entryIn
+  unfolding optional cheaper entryIn
   best-stays sb e = record {
     small = sb;
     chosen = λ ready durations.
+        let b = entryIn ready durations latests best in
+        let a = entryIn ready durations latests i in
         rw (whom-some best (λ q. absurd (omega (arith, q))))
-        (ap some (sym (when-true (less best i) (entryIn ready durations latests best) (entryIn ready durations latests i) e)));
+        (ap some (sym (when-true (costsLess b a) b a (costs-less-is b a ∙ e))));
   }
 
   pub new-best : best < 256 → less best i ≡ false → Cheaper latests best i i
-  unfolding optional cheaper costsLess entryIn
+  unfolding optional cheaper entryIn
   new-best sb e = record {
     small = small;
     chosen = λ ready durations.
+        let b = entryIn ready durations latests best in
+        let a = entryIn ready durations latests i in
         rw (whom-some best (λ q. absurd (omega (arith, q))), whom-some i (λ q. absurd (omega (arith, q))))
-        (ap some (sym (when-false (less best i) (entryIn ready durations latests best) (entryIn ready durations latests i) e)));
+        (ap some (sym (when-false (costsLess b a) b a (costs-less-is b a ∙ e))));
   }
 
 one-of-map : {A B : Type 0} (p : B → Bool) (f : A → B) (xs : List A) → oneOf p (map f xs) ≡ oneOf (λ x. p (f x)) xs
@@ -192,7 +197,15 @@ others-are entry named ids from work piece = rw (named piece) (go ids)
         (λ e. rw (same ∙ e, e, when) (go l))
         (λ e. rw (same ∙ e, e, when) (ap (λ (es : List Entry). entry x ∷ es) (go l)))
 
-keep-snoc : {A : Type 0} (p : A → Bool) (xs : List A) (x : A)
+-- Numbers in a row, and those that pass a test, with one more at the end.
+pub row-snoc : (n a : ℕ) → row a (suc n) ≡ row a n ++ ((a + n) ∷ [])
+unfolding row
+row-snoc zero a = let q : a + 0 ≡ a = omega arith in rw q
+row-snoc (suc n) a =
+    let q : suc a + n ≡ a + suc n = omega arith in
+    ap (λ (l : List ℕ). a ∷ l) (row-snoc n (suc a) ∙ ap (λ (k : ℕ). row (suc a) n ++ (k ∷ [])) q)
+
+pub keep-snoc : {A : Type 0} (p : A → Bool) (xs : List A) (x : A)
     → keep p (xs ++ (x ∷ [])) ≡ keep p xs ++ when (p x) (x ∷ []) []
 unfolding keep
 keep-snoc p [] x = refl

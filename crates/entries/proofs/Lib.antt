@@ -1,7 +1,9 @@
--- What the walks of the functions over a list of entries share, the laws of an entry put in its place, and those of a list
--- that is filled.
+-- What the walks of the functions over a list of entries share, and the laws of keys in order and of entries put by them.
 pub mod Lies
 pub mod Lending
 pub mod Counted
-pub mod Placing
-pub mod FromBack
+pub mod Sliding
+pub mod Ranking
+pub mod Putting
+pub mod Held
+pub mod Thin

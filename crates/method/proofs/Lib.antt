@@ -10,5 +10,6 @@ pub mod SameLinks
 pub mod RunsLaid
 pub mod Turned
 -- one desk of a job: the block method agrees with the plan; the worst lateness over the runs
+pub mod DeskEnd
 pub mod OfDesk
 pub mod Late

@@ -2,3 +2,4 @@
 pub mod Hours
 pub mod Board
 pub mod Method
+pub mod Sheet

@@ -1,4 +1,3 @@
 -- Laws of latest moments in tables.
-pub mod DelayLaws
 pub mod LeastLaws
 pub mod TimedLaws

@@ -14,7 +14,7 @@ use Rattle.rules.specs.Job.{Job, pieceCount, piece, desk}
 use Rattle.rules.specs.Moments.{takesOff, latest}
 use Rattle.rules.specs.Tables.{pieceIn, linkIn, noLink}
 use Rattle.rules.specs.declared.Link.{Link}
-use Rattle.laws.proofs.Delay.{takes-off-most}
+use Rattle.laws.proofs.Delay.{delay-is, takes-off-is, takes-off-most}
 use Rattle.laws.proofs.Latest.{asked-most, latest-equation, latest-due, latest-after, latest-near}
 use Rattle.laws.proofs.Signed.{_≼_, same}
 use Rattle.laws.proofs.Sound.{fits, mem-place, place-mem, from-link}
@@ -25,7 +25,6 @@ use Rattle.links.specs.Queue.{Net}
 use Rattle.links.proofs.ChainLaws.{places-key, key-places}
 use Rattle.links.proofs.LinkLaws.{job-pieces, job-links, job-piece, job-link, job-ties}
 use Rattle.moments.specs.Moments.{takesOffIn, leftBy, leastLeft, ToTimeOne, TimedOne, Timeable, timedJob}
-use Rattle.moments.proofs.DelayLaws.{takes-off-is, delay-is}
 use Rattle.moments.proofs.LeastLaws.{left-start, left-each, left-most}
 
 module _ (n : ℕ) (desks durations dues afters handovers lasts priors order : List ℕ)

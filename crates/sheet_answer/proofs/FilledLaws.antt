@@ -12,8 +12,8 @@ use Rattle.rules.specs.BlockSheet.{blocks, blockRuns, blockNumbers}
 use Rattle.laws.proofs.Words.{length-below}
 use Rattle.demands.proofs.Sheets.{desk-few}
 use Rattle.method.specs.Board.{runOf, stretchAt, runsIn}
-use Rattle.blocks.specs.Rows.{rowAt, rowsIn}
-use Rattle.blocks.specs.Sheet.{sheetRow, SheetOf}
+use Rattle.method.specs.Sheet.{rowAt, rowsIn}
+use Rattle.method.specs.Sheet.{sheetRow, SheetOf}
 use Rattle.sheet_answer.specs.Listed.{recordsIn}
 
 module _ {J : Job} {d : ℕ} {counts starts ends pieces froms untils : List ℕ} {rows runs : ℕ} {worst : ℤ}

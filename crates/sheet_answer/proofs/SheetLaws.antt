@@ -9,8 +9,8 @@ use Rattle.rules.specs.Bytes.{blockRecord, runRecord, lastWord}
 use Rattle.rules.specs.BlockSheet.{blocks, blockRuns, blockRecordOf, sheetBytes}
 use Rattle.laws.proofs.Joined.{map-twice, joined-append}
 use Rattle.method.specs.Board.{runOf, stretchAt, runsIn}
-use Rattle.blocks.specs.Rows.{BlockRow, rowAt, rowsIn}
-use Rattle.blocks.specs.Sheet.{sheetRow, SheetOf}
+use Rattle.method.specs.Sheet.{BlockRow, rowAt, rowsIn}
+use Rattle.method.specs.Sheet.{sheetRow, SheetOf}
 use Rattle.sheet_answer.specs.Listed.{recordIn, recordsIn}
 
 rowRecord : ℕ → BlockRow → List ℕ

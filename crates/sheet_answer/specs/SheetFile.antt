@@ -6,7 +6,7 @@ use mathlib.Core.Path.{_≡_}
 use lib.IntN.{ℤ}
 use Rattle.rules.specs.Job.{Job, accepted, pieceCount}
 use Rattle.rules.specs.Judgement.{fileOutcome}
-use Rattle.blocks.specs.Sheet.{SheetOf}
+use Rattle.method.specs.Sheet.{SheetOf}
 
 pub record SheetFile (file : List ℕ) (d : ℕ) (counts starts ends pieces froms untils : List ℕ) (rows runs : ℕ) (worst : ℤ)
     (room : ℕ) : Type 0 where

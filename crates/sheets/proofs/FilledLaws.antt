@@ -8,7 +8,8 @@ use Rattle.rules.specs.Job.{accepted}
 use Rattle.rules.specs.Judgement.{fileOutcome}
 use Rattle.rules.specs.Tables.{jobIn}
 use Rattle.links.proofs.LinkLaws.{job-pieces}
-use Rattle.blocks.specs.Sheet.{Laid, SheetOf}
+use Rattle.blocks.specs.Sheet.{Laid}
+use Rattle.method.specs.Sheet.{SheetOf}
 use Rattle.finished.specs.Finished.{Finished}
 use Rattle.sheet_answer.specs.Refused.{sheetFault}
 use Rattle.sheet_answer.specs.SheetFile.{SheetFile}

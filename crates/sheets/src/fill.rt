@@ -5,8 +5,8 @@ use blocks::sheet::Sheet;
 use planning::finishing::finish_plan;
 ghost use Rattle.rules.specs.Tables.{jobIn};
 ghost use Rattle.method.specs.Board.{Tables};
-ghost use Rattle.blocks.specs.Rows.{RowTables};
-ghost use Rattle.blocks.specs.Sheet.{SheetOf};
+ghost use Rattle.method.specs.Sheet.{RowTables};
+ghost use Rattle.method.specs.Sheet.{SheetOf};
 ghost use Rattle.planning.specs.Judged.{Planable};
 
 // The log of the plan is needed no longer when the block method begins, so its tables take the runs of that.

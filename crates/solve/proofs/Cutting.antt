@@ -1,6 +1,6 @@
 -- Cutting a set, block by block, and solving a block, as the tables of numbers have it: what is left to cut from here gives
 -- the board of the whole set. Assumes nothing.
-use Prim.Native.Nat.{ℕ, zero, suc, _+_, _-_, _≤_, _<_}
+use Prim.Native.Nat.{ℕ, zero, suc, _+_, _-_, _*_, _≤_, _<_}
 use mathlib.Core.Bool.{Bool, false, not}
 use mathlib.Core.List.{List, [], _∷_, map, List·Memᴰ as Mem, List·Memᴰ·head as here, List·Memᴰ·tail as there}
 use mathlib.Core.Option.{Option, none, some}
@@ -18,7 +18,7 @@ use Rattle.laws.proofs.Words.{by-test, keep-length, mem-keep}
 use Rattle.laws.proofs.Sound.{mem-place, place-mem}
 use Rattle.method.specs.Hours.{deskEnd}
 use Rattle.blocksteps.specs.Listed.{entryIn, tiedIn, Listed, Extends}
-use Rattle.method.specs.Board.{Stretch, give, whom}
+use Rattle.method.specs.Board.{Stretch, Tables, boardIn, give, whom}
 use Rattle.method.specs.Method.{around, solved}
 use Rattle.blocksteps.specs.Aside.{optional, Aside}
 use Rattle.solve.specs.Solving.{CutOnto, SolvedOnto}
@@ -50,6 +50,19 @@ module _ (follows : ℕ → ℕ → Bool) (entry : ℕ → Entry) (f : ℕ) (who
   pub no-block : (ids : List ℕ) (t : ℕ) (b : List Stretch) → ids ≡ [] → give who t end b ≡ onward t ids b
   unfolding around cutInOrder
   no-block ids t b e = rw e
+
+-- The set cut up to place `at` of its list, and to moment t: what is left to cut from here gives the board of the whole set.
+pub record CutTo (follows : ℕ → ℕ → Bool) (entry : ℕ → Entry) (who : Option ℕ) (from end : ℕ) (start : List ℕ)
+    (board₀ : List Stretch) (count : ℕ) (ids marks pieces froms untils : List ℕ) (k t at : ℕ) : Type 0 where
+  pub within : at ≤ length start
+  pub sized : length ids ≡ length start
+  pub rest : drop at ids ≡ drop at start
+  pub marks-sized : length marks ≡ 256
+  pub tables : Tables pieces froms untils
+  pub few : k + 2 * (length start - at) ≤ count + 2 * length start
+  pub board : (f : ℕ) → length start ≤ f
+      → onward follows entry f who end t (drop at start) (boardIn k pieces froms untils)
+      ≡ onward follows entry f who end from start board₀
 
 -- Two lists that are the same from place a on.
 module _ (ids start : List ℕ) (a : ℕ) (e : drop a ids ≡ drop a start) where

@@ -1,5 +1,5 @@
 -- `desk_sheet` meets its contract: the list of the desk's pieces in order stands for its entries in order, cut and solved.
-use Rattle.blocks.proofs.Worst.{back}
+use Rattle.blockrows.proofs.Worst.{back}
 use Rattle.blocksteps.proofs.Stored.{share-none}
 use Rattle.method.specs.Board.{boardIn}
 use Prim.Native.Nat.{_≤_}

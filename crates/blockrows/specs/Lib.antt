@@ -1,0 +1,2 @@
+-- The words of the sheet's blocks and of its worst lateness.
+pub mod Rows

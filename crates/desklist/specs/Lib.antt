@@ -1,0 +1,2 @@
+-- The words of a desk's pieces in order.
+pub mod Ordered
