@@ -1,5 +1,5 @@
--- The open slots of a desk, as the code counts them: the one place of this crate that looks into the rules' definitions of
--- them.
+-- The open slots of a desk, as the code counts them: the one place of this crate that looks into the rules' definitions
+-- of them.
 use Prim.Native.Nat.{ℕ}
 use mathlib.Core.Path.{_≡_, refl}
 use Rattle.rules.specs.Job.{Job}
