@@ -90,14 +90,20 @@ module _ (ready durations ids counts starts ends : List ℕ) (b at : ℕ)
         let z : at + 0 ≡ at = omega arith in
         let first : getD (drop at ids) 0 0 ≡ getD ids at 0 = getD-drop at ids 0 0 ∙ ap (λ (k : ℕ). getD ids k 0) z in
         let B : Block =
-        record { from = entry (getD (drop at ids) 0 0) .ready; work = e .work; members = map entry (take n (drop at ids)) } in
+        record {
+          from = entry (getD (drop at ids) 0 0) .ready;
+          work = e .work;
+          members = map entry
+              (take n (drop at ids));
+        } in
         let later : List BlockRow = map rowOf (cutInOrder deskEnd (map entry (drop (at + n) ids))) in
         let same : _≡_ {A = BlockRow} (record { count = n; from = start; end = over }) (rowOf B) =
         row-same n start over (length (B .members)) (B .from) (blockEnd deskEnd B)
         (sym (length-map (take n (drop at ids)) entry ∙ length-take-le n (drop at ids) (e .within)))
         (ap (λ (i : ℕ). getD ready i 0) (sym first)) (e .ends) in
         ap (λ (k : ℕ). rowsIn k (set counts b n) (set starts b start) (set ends b over) ++ later) (add-one b)
-        ∙ ap (λ (l : List BlockRow). l ++ later) (rows-more b counts starts ends n start over (g .tables) (omega (arith, g .few)))
+        ∙ ap (λ (l : List BlockRow). l ++ later)
+        (rows-more b counts starts ends n start over (g .tables) (omega (arith, g .few)))
         ∙ append-assoc (rowsIn b counts starts ends) (record { count = n; from = start; end = over } ∷ []) later
         ∙ ap (λ (l : List BlockRow). rowsIn b counts starts ends ++ l)
         (ap (λ (r : BlockRow). r ∷ later) same

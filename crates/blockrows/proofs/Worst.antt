@@ -1,5 +1,5 @@
--- The worst lateness over the runs, from the last to the first: each lateness fits, and the greatest of those behind gives
--- the greatest of all. Assumes nothing.
+-- The worst lateness over the runs, from the last to the first: each lateness fits, and the greatest of those behind
+-- gives the greatest of all. Assumes nothing.
 use Prim.Native.Nat.{ℕ, zero, suc, _+_, _-_, _^_, _≤_, _<_}
 use mathlib.Core.List.{map}
 use mathlib.Core.Path.{_≡_}

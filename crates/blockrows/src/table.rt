@@ -1,4 +1,5 @@
-// What the sheet says besides the runs: a row for each block of the first cutting, and the worst lateness over the runs.
+// What the sheet says besides the runs: a row for each block of the first cutting, and the worst lateness over the
+// runs.
 use blocksteps::gather::gather_block;
 use numbers::signed::greater;
 ghost use mathlib.Core.Path.{_≡_};
@@ -10,7 +11,8 @@ ghost use Rattle.blocksteps.specs.Listed.{Listed};
 ghost use Rattle.method.specs.Sheet.{RowTables};
 ghost use Rattle.blockrows.specs.Rows.{HoldsRows, lateIn, Dated};
 
-// Puts count, first slot and end of each block of the listed set into the tables, by time, and returns how many there are.
+// Puts count, first slot and end of each block of the listed set into the tables, by time, and returns how many there
+// are.
 pub fn first_blocks(
     ids: &[u16],
     ready: &[u32; 256],
@@ -58,7 +60,8 @@ pub fn worst_lateness(
 ) -> i32
     requires { ⌜ Dated (now latests) (now pieces) (now untils) count ⌝ }
     ensures { λ r.
-        ⌜ r ≡ worstOf (map (lateIn (now (latests .entry)) (now (pieces .entry)) (now (untils .entry))) (below count)) ⌝ }
+        ⌜ r ≡ worstOf
+        (map (lateIn (now (latests .entry)) (now (pieces .entry)) (now (untils .entry))) (below count)) ⌝ }
 {
     if count == 0 {
         return 0;

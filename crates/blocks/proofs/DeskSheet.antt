@@ -88,7 +88,8 @@ module _ (J : Job) (n m : ℕ) (desks durations befores afters ready : List ℕ)
 
   own-entries : map entryOf own ≡ entries J d
   unfolding entries
-  own-entries = map-same entryOf (entry J) own (λ i k. entry-same i (own-small i k)) ∙ ap (map (entry J)) (sym own-pieces)
+  own-entries = map-same entryOf (entry J) own (λ i k. entry-same i (own-small i k))
+      ∙ ap (map (entry J)) (sym own-pieces)
 
   -- The entries in order, each of which is that of its number.
   abbrev sorted-own : List Entry
@@ -196,9 +197,11 @@ module _ (J : Job) (n m : ℕ) (desks durations befores afters ready : List ℕ)
       unfolding whom when
       board-is =
           cuts (length (entries J d)) (omega (arith, ap length (l .are), list-count, entries-count))
-          ∙ ap (λ (es : List Entry). around deskEnd (solved (tiedIn m befores afters) deskEnd (length (entries J d))) none 0 0
+          ∙ ap (λ (es : List Entry). around deskEnd
+          (solved (tiedIn m befores afters) deskEnd (length (entries J d))) none 0 0
           (cutInOrder deskEnd es) []) listed-are
-          ∙ set-same (tiedIn m befores afters) (linked J) deskEnd (length (entries J d)) none 0 0 (inOrder (entries J d)) []
+          ∙ set-same (tiedIn m befores afters) (linked J) deskEnd (length (entries J d)) none 0 0
+          (inOrder (entries J d)) []
           same-links
           ∙ ap (λ (f : ℕ → ℕ → ℕ). around f (solved (linked J) f (length (entries J d))) none 0 0
           (cutInOrder f (inOrder (entries J d))) []) (sym (end-is J d))
@@ -253,9 +256,11 @@ module _ (J : Job) (n m : ℕ) (desks durations befores afters ready : List ℕ)
       unfolding blockNumbers runsIn
       sheet-worst =
           ap worstOf
-          (map-same (lateIn latests pieces untils) (λ j. runLate J (e .sound) (e .free) d (runOf (stretchAt pieces froms untils j)))
+          (map-same (lateIn latests pieces untils)
+          (λ j. runLate J (e .sound) (e .free) d (runOf (stretchAt pieces froms untils j)))
           (below k)
-          (λ j i. ap (λ (z : ℤ). pos (getD untils j 0) -ℤ z) (sym (e .latest-is (getD pieces j 0) (run-known j (mem-below k j i) .0))))
+          (λ j i. ap (λ (z : ℤ). pos (getD untils j 0) -ℤ z)
+          (sym (e .latest-is (getD pieces j 0) (run-known j (mem-below k j i) .0))))
           ∙ sym (map-twice (λ j. runOf (stretchAt pieces froms untils j)) (runLate J (e .sound) (e .free) d) (below k))
           ∙ ap (map (runLate J (e .sound) (e .free) d)) sheet-runs)
           ∙ worst-of-runs J (e .sound) (e .free) d

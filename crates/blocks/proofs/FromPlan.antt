@@ -18,7 +18,8 @@ use Rattle.laws.proofs.Sound.{linked-link, link-linked}
 use Rattle.blocksteps.specs.Listed.{tiedIn}
 use Rattle.blocksteps.specs.Aside.{Tied}
 use Rattle.ready.specs.Planned.{HoldsRaised}
-use Rattle.ready.proofs.FromTables.{job-count, job-desk, job-duration, link-mem, mem-link, before-small, after-small, pieces-few, links-few}
+use Rattle.ready.proofs.FromTables.{job-count, job-desk, job-duration, link-mem, mem-link, before-small}
+use Rattle.ready.proofs.FromTables.{after-small, pieces-few, links-few}
 use Rattle.blocks.specs.Own.{OwnLinks}
 use Rattle.blocks.specs.Sheet.{Entered, Laid}
 
@@ -43,7 +44,8 @@ module _ (befores afters : List ℕ) (i j : ℕ) where
       by-test (eqb k m)
       (λ e.
       or-left (eqb (getD befores m 0) i && eqb (getD afters m 0) j) (tiedIn m befores afters i j)
-      (and-intro _ _ (eq-eqb (getD befores m 0) i (rw (eqb-true k m e) at b)) (eq-eqb (getD afters m 0) j (rw (eqb-true k m e) at a))))
+      (and-intro _ _ (eq-eqb (getD befores m 0) i (rw (eqb-true k m e) at b))
+      (eq-eqb (getD afters m 0) j (rw (eqb-true k m e) at a))))
       (λ e.
       or-right (eqb (getD befores m 0) i && eqb (getD afters m 0) j) (tiedIn m befores afters i j)
       (found-tied m k (omega (arith, eqb-false k m e)) b a))
@@ -79,7 +81,8 @@ module _ (J : Job) (n m : ℕ) (desks durations releases befores afters handover
   }
 
   pub laid-entered : (table : List ℕ) → HoldsRaised J table → (d k : ℕ) (ownBefores ownAfters : List ℕ)
-      → OwnLinks d desks m befores afters k ownBefores ownAfters → Entered J d n k desks durations ownBefores ownAfters table latests
+      → OwnLinks d desks m befores afters k ownBefores ownAfters
+      → Entered J d n k desks durations ownBefores ownAfters table latests
   laid-entered table r d k ownBefores ownAfters own =
       let p = l .planned in
       record {

@@ -33,12 +33,18 @@ module _ (d : ℕ) (desks befores afters : List ℕ) where
   abbrev Own : ℕ → ℕ → List ℕ → List ℕ → Type 0
   Own k r ownBefores ownAfters = OwnLinks d desks k befores afters r ownBefores ownAfters
 
-  pub own-none : (ownBefores ownAfters : List ℕ) → length ownBefores ≡ 1024 → length ownAfters ≡ 1024 → Own 0 0 ownBefores ownAfters
+  pub own-none : (ownBefores ownAfters : List ℕ) → length ownBefores ≡ 1024 → length ownAfters ≡ 1024
+      → Own 0 0 ownBefores ownAfters
   unfolding tiedIn
   own-none ownBefores ownAfters p q = record {
     befores-sized = p;
     afters-sized = q;
-    links = record { few = omega arith; before-known = λ k h. absurd (omega arith); after-known = λ k h. absurd (omega arith) };
+    links = record {
+      few = omega arith;
+      before-known = λ k h. absurd (omega arith);
+      after-known = λ k h. absurd
+          (omega arith);
+    };
     same = λ i j p q. refl;
   }
 

@@ -14,9 +14,10 @@ use Rattle.blocksteps.specs.Listed.{tiedIn}
 use Rattle.blocksteps.specs.Aside.{Tied}
 use Rattle.ready.specs.Planned.{Planned}
 
--- The tables hold job J, sound and without a ring: its desks, durations, raised ready moments and latest moments, and the
--- links between two pieces of desk d.
-pub record Entered (J : Job) (d n m : ℕ) (desks durations befores afters ready : List ℕ) (latests : List ℤ) : Type 0 where
+-- The tables hold job J, sound and without a ring: its desks, durations, raised ready moments and latest moments, and
+-- the links between two pieces of desk d.
+pub record Entered (J : Job) (d n m : ℕ) (desks durations befores afters ready : List ℕ)
+    (latests : List ℤ) : Type 0 where
   pub sound : Sound J
   pub free : ringPiece J ≡ none
   pub count : pieceCount J ≡ n

@@ -1,5 +1,5 @@
-// The links between two pieces of one desk, out of all links. The block method asks for no others, and there may be many:
-// so each block looks at these alone.
+// The links between two pieces of one desk, out of all links. The block method asks for no others, and there may be
+// many: so each block looks at these alone.
 ghost use mathlib.Core.Path.{_≡_};
 ghost use lib.ListN.{length};
 ghost use Rattle.blocksteps.specs.Aside.{Tied};

@@ -1,5 +1,5 @@
-// The block sheet of one desk out of the tables of a finished plan: the raised ready moments are made of them first, and the
-// links of the desk are picked out.
+// The block sheet of one desk out of the tables of a finished plan: the raised ready moments are made of them first,
+// and the links of the desk are picked out.
 use crate::own::own_links;
 use crate::sheet::Sheet;
 use crate::sheet::desk_sheet;

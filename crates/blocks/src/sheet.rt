@@ -1,5 +1,5 @@
-// The block sheet of one desk: its pieces in order, the blocks of the first cutting, the runs of the block method, and the
-// worst lateness. It comes out of the block rule alone.
+// The block sheet of one desk: its pieces in order, the blocks of the first cutting, the runs of the block method, and
+// the worst lateness. It comes out of the block rule alone.
 use blockrows::table::first_blocks;
 use blockrows::table::worst_lateness;
 use blocksteps::board::NOBODY;
@@ -38,7 +38,8 @@ pub fn desk_sheet(
     untils: &mut [u32; 512],
 ) -> Sheet
     requires { ⌜
-        ((J : Job) × Entered J desk n m (now desks) (now durations) (now befores) (now afters) (now ready) (now latests))
+        ((J : Job)
+        × Entered J desk n m (now desks) (now durations) (now befores) (now afters) (now ready) (now latests))
         ⌝ }
     requires { ⌜ RowTables (now counts) (now starts) (now ends) ⌝ }
     requires { ⌜ Tables (now pieces) (now froms) (now untils) ⌝ }

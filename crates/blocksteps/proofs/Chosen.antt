@@ -1,8 +1,9 @@
--- Who is set aside, looked for from the last piece of a block to the first: the best of those behind gives the best of all.
--- And the list without it. Assumes nothing.
+-- Who is set aside, looked for from the last piece of a block to the first: the best of those behind gives the best of
+-- all. And the list without it. Assumes nothing.
 use Prim.Native.Nat.{ℕ, zero, suc, _+_, _≤_, _<_}
 use mathlib.Core.Bool.{Bool, true, false, not, _&&_, _||_}
-use mathlib.Core.List.{List, [], _∷_, _++_, map, append-nil, List·Memᴰ as Mem, List·Memᴰ·head as here, List·Memᴰ·tail as there}
+use mathlib.Core.List.{List, [], _∷_, _++_, map, append-nil}
+use mathlib.Core.List.{List·Memᴰ as Mem, List·Memᴰ·head as here, List·Memᴰ·tail as there}
 use mathlib.Core.Option.{Option, none, some, Option·none-ne-some, Option·some-injective}
 use mathlib.Core.Path.{_≡_, refl, sym, ap, _∙_}
 use native.Mathlib.Numerals.{add-one}
@@ -42,7 +43,8 @@ whom-nobody i e = when-true (eqb i 65535) none (some i) (eq-eqb i 65535 e)
 
 -- What a comparison says that read its numbers back from their bits.
 pub less-read : (la lb : ℤ) (a b : ℕ) (r : Bool) → SFits w32 la → SFits w32 lb
-    → r ≡ (ltZ (toZ w32 (ofZ w32 lb)) (toZ w32 (ofZ w32 la)) || (leZ (toZ w32 (ofZ w32 lb)) (toZ w32 (ofZ w32 la)) && ltb b a))
+    → r ≡ (ltZ (toZ w32 (ofZ w32 lb)) (toZ w32 (ofZ w32 la)) ||
+    (leZ (toZ w32 (ofZ w32 lb)) (toZ w32 (ofZ w32 la)) && ltb b a))
     → (ltZ lb la || (leZ lb la && ltb b a)) ≡ r
 less-read la lb a b r fa fb e = sym (rw (toZ-ofZ fa, toZ-ofZ fb) at e)
 
@@ -96,7 +98,8 @@ one-of-same p q (x ∷ xs) h = rw (h x, one-of-same p q xs h)
 -- A listed number is a member.
 pub listed-member : (ids : List ℕ) (k : ℕ) → k < length ids → oneOf (eqb (getD ids k 0)) ids ≡ true
 listed-member ids k h =
-    oneOf-intro (eqb (getD ids k 0)) ids (getD ids k 0) (place-mem 0 ids k h) (eq-eqb (getD ids k 0) (getD ids k 0) refl)
+    oneOf-intro (eqb (getD ids k 0)) ids (getD ids k 0) (place-mem 0 ids k h)
+    (eq-eqb (getD ids k 0) (getD ids k 0) refl)
 
 -- The best of the listed pieces from place k on.
 module _ (follows : ℕ → ℕ → Bool) (entry : ℕ → Entry) (named : (i : ℕ) → entry i .number ≡ i) (ids : List ℕ) where
@@ -127,7 +130,8 @@ module _ (follows : ℕ → ℕ → Bool) (entry : ℕ → Entry) (named : (i : 
     -- Those from place k on: the one there, if it is free, and those behind.
     from-here : (c : Bool) → free (entry (getD ids k 0)) ≡ c
         → keep free (map entry (drop k ids))
-        ≡ when c (entry (getD ids k 0) ∷ keep free (map entry (drop (suc k) ids))) (keep free (map entry (drop (suc k) ids)))
+        ≡ when c (entry (getD ids k 0) ∷ keep free (map entry (drop (suc k) ids)))
+        (keep free (map entry (drop (suc k) ids)))
     unfolding keep
     from-here c e =
         ap (λ (l : List ℕ). keep free (map entry l)) (drop-cons ids k 0 l)
@@ -154,7 +158,8 @@ module _ (follows : ℕ → ℕ → Bool) (entry : ℕ → Entry) (named : (i : 
   best-of-all r from work b = b
 
 -- Who is set aside is one of the list.
-cheaper-mem : (x : Entry) (es : List Entry) (o : Option Entry) → ((b : Entry) → o ≡ some b → b ∈ es) → cheaper x o ∈ x ∷ es
+cheaper-mem : (x : Entry) (es : List Entry) (o : Option Entry) → ((b : Entry) → o ≡ some b → b ∈ es)
+    → cheaper x o ∈ x ∷ es
 unfolding cheaper
 cheaper-mem x es none h = here refl
 cheaper-mem x es (some b) h =
@@ -189,7 +194,8 @@ pub others-are : (entry : ℕ → Entry) → ((i : ℕ) → entry i .number ≡ 
 unfolding others keep
 others-are entry named ids from work piece = rw (named piece) (go ids)
   where
-    go : (l : List ℕ) → keep (λ e. not (eqb (e .number) piece)) (map entry l) ≡ map entry (keep (λ i. not (eqb i piece)) l)
+    go : (l : List ℕ) → keep (λ e. not (eqb (e .number) piece)) (map entry l)
+        ≡ map entry (keep (λ i. not (eqb i piece)) l)
     go [] = refl
     go (x ∷ l) =
         let same : eqb (entry x .number) piece ≡ eqb x piece = ap (λ (i : ℕ). eqb i piece) (named x) in
@@ -249,7 +255,8 @@ module _ (start ids : List ℕ) (piece kept k : ℕ) (g : Keeping start ids piec
     front =
         g .front ∙ sym (append-nil _)
         ∙ sym (ap (keep (λ i. not (eqb i piece))) one-more ∙ keep-snoc _ (take k start) (getD ids k 0)
-        ∙ ap (λ (b : Bool). keep (λ i. not (eqb i piece)) (take k start) ++ when (not b) (getD ids k 0 ∷ []) []) (eq-eqb _ piece e));
+        ∙ ap (λ (b : Bool). keep (λ i. not (eqb i piece)) (take k start) ++ when (not b) (getD ids k 0 ∷ []) [])
+        (eq-eqb _ piece e));
     rest = next-rest;
     behind = omega (arith, g .behind);
     inside = h;
@@ -263,7 +270,8 @@ module _ (start ids : List ℕ) (piece kept k : ℕ) (g : Keeping start ids piec
         take-suc-set ids kept (getD ids k 0) (omega (arith, g .behind))
         ∙ ap (λ (l : List ℕ). l ++ (getD ids k 0 ∷ [])) (g .front)
         ∙ sym (ap (keep (λ i. not (eqb i piece))) one-more ∙ keep-snoc _ (take k start) (getD ids k 0)
-        ∙ ap (λ (b : Bool). keep (λ i. not (eqb i piece)) (take k start) ++ when (not b) (getD ids k 0 ∷ []) []) (ne-eqb _ piece ne));
+        ∙ ap (λ (b : Bool). keep (λ i. not (eqb i piece)) (take k start) ++ when (not b) (getD ids k 0 ∷ []) [])
+        (ne-eqb _ piece ne));
     rest = drop-set-lt (suc k) ids kept (getD ids k 0) (omega (arith, g .behind)) ∙ next-rest;
     behind = omega (arith, g .behind);
     inside = omega (arith, length-set ids kept (getD ids k 0));

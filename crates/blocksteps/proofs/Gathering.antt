@@ -1,4 +1,5 @@
--- A block while it is gathered, piece by piece: what is left to gather gives the blocks of the whole set. Assumes nothing.
+-- A block while it is gathered, piece by piece: what is left to gather gives the blocks of the whole set. Assumes
+-- nothing.
 use Prim.Native.Nat.{ℕ, suc, _+_, _≤_, _<_}
 use mathlib.Core.List.{List, [], _∷_, _++_, map}
 use mathlib.Core.Path.{_≡_, refl, sym, ap, _∙_}
@@ -49,7 +50,12 @@ module _ (entry : ℕ → Entry) (ids : List ℕ) where
     where
       go : (l : List ℕ) → 0 < length l
           → gather deskEnd
-          (record { from = entry (getD l 0 0) .ready; work = entry (getD l 0 0) .duration; members = map entry (take 1 l) })
+          (record {
+            from = entry (getD l 0 0) .ready;
+            work = entry (getD l 0 0) .duration;
+            members = map entry
+                (take 1 l);
+          })
           (map entry (drop 1 l)) ≡ cutInOrder deskEnd (map entry l)
       go [] h = absurd (omega arith)
       go (x ∷ xs) h = refl

@@ -95,7 +95,8 @@ module _ (k : ℕ) (p f u : List ℕ) (t : Tables p f u) (x from until : ℕ) wh
       board-same (k - 1) p f (set u (k - 1) until) p f u (λ i l. refl) (λ i l. refl)
       (λ i l. getD-set-other u (k - 1) i until 0 (λ q. absurd (omega arith))) in
       board-last k p f (set u (k - 1) until) some-one
-      ∙ ap (λ (b : List Stretch). stretch (getD p (k - 1) 0) (getD f (k - 1) 0) (getD (set u (k - 1) until) (k - 1) 0) ∷ b) kept
+      ∙ ap (λ (b : List Stretch). stretch (getD p (k - 1) 0) (getD f (k - 1) 0)
+      (getD (set u (k - 1) until) (k - 1) 0) ∷ b) kept
       ∙ rw (getD-set-same u (k - 1) until 0 (omega (arith, t .untils-sized)), same)
       (sym (ap (joined x from until) (board-last k p f u some-one) ∙ when-true _ _ _ e))
 

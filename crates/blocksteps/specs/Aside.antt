@@ -1,5 +1,5 @@
--- Who is set aside of a block, in numbers: a mark for each piece says whether it is in the block and whether a piece after
--- it by a direct link is; of those without one, the one that costs least.
+-- Who is set aside of a block, in numbers: a mark for each piece says whether it is in the block and whether a piece
+-- after it by a direct link is; of those without one, the one that costs least.
 use Prim.Native.Nat.{ℕ, _≤_, _<_}
 use mathlib.Core.Bool.{Bool, not}
 use mathlib.Core.List.{List, map}

@@ -1,5 +1,5 @@
-// Who is set aside of a block: among the pieces without a piece after them by a direct link in the same block, the one with
-// least cost at the block's end (greatest latest moment; highest number where equal). And the block without it.
+// Who is set aside of a block: among the pieces without a piece after them by a direct link in the same block, the one
+// with least cost at the block's end (greatest latest moment; highest number where equal). And the block without it.
 use crate::board::NOBODY;
 ghost use mathlib.Core.Bool.{Bool, _&&_, _||_};
 ghost use mathlib.Core.List.{List};
@@ -9,7 +9,8 @@ ghost use lib.Dec.{ltb};
 ghost use lib.ListN.{length};
 ghost use lib.Signed.{ltZ, leZ};
 ghost use Rattle.blocksteps.specs.Listed.{tiedIn};
-ghost use Rattle.blocksteps.specs.Aside.{Marks, noMark, memberMark, ledMark, Tied, Known, Cheaper, Aside, Without};
+ghost use Rattle.blocksteps.specs.Aside.{Marks, noMark, memberMark, ledMark, Tied, Known};
+ghost use Rattle.blocksteps.specs.Aside.{Cheaper, Aside, Without};
 
 fn clear_marks(marks: &mut [u8; 256])
     requires { ⌜ length (now marks) ≡ 256 ⌝ }

@@ -1,5 +1,6 @@
-// The board: the stretches of slots given away so far, by time, in three tables. Slots are given away in the order of time
-// only, so a stretch is put at the end, or makes the last one longer where it touches that and is the same piece's.
+// The board: the stretches of slots given away so far, by time, in three tables. Slots are given away in the order of
+// time only, so a stretch is put at the end, or makes the last one longer where it touches that and is the same
+// piece's.
 ghost use mathlib.Core.List.{List};
 ghost use mathlib.Core.Path.{_≡_};
 ghost use Prim.Native.Nat.{ℕ, _+_, _≤_};
@@ -12,7 +13,8 @@ pub const NOBODY: u16 = 65535;
 fn touches(pieces: &[u16; 512], untils: &[u32; 512], count: usize, piece: u16, from: u32) -> bool
     requires { ⌜ count ≤ 512 ⌝ }
     ensures { λ r.
-        ⌜ ((froms : List ℕ) → r ≡ touching piece from (boardIn count (now (pieces .entry)) froms (now (untils .entry)))) ⌝ }
+        ⌜ ((froms : List ℕ) → r
+        ≡ touching piece from (boardIn count (now (pieces .entry)) froms (now (untils .entry)))) ⌝ }
 {
     if count == 0 {
         return false;

@@ -1,5 +1,5 @@
--- Cutting a set, block by block, and solving a block, as the tables of numbers have it: what is left to cut from here gives
--- the board of the whole set. Assumes nothing.
+-- Cutting a set, block by block, and solving a block, as the tables of numbers have it: what is left to cut from here
+-- gives the board of the whole set. Assumes nothing.
 use Prim.Native.Nat.{ℕ, zero, suc, _+_, _-_, _*_, _≤_, _<_}
 use mathlib.Core.Bool.{Bool, false, not}
 use mathlib.Core.List.{List, [], _∷_, map, List·Memᴰ as Mem, List·Memᴰ·head as here, List·Memᴰ·tail as there}
@@ -51,7 +51,8 @@ module _ (follows : ℕ → ℕ → Bool) (entry : ℕ → Entry) (f : ℕ) (who
   unfolding around cutInOrder
   no-block ids t b e = rw e
 
--- The set cut up to place `at` of its list, and to moment t: what is left to cut from here gives the board of the whole set.
+-- The set cut up to place `at` of its list, and to moment t: what is left to cut from here gives the board of the whole
+-- set.
 pub record CutTo (follows : ℕ → ℕ → Bool) (entry : ℕ → Entry) (who : Option ℕ) (from end : ℕ) (start : List ℕ)
     (board₀ : List Stretch) (count : ℕ) (ids marks pieces froms untils : List ℕ) (k t at : ℕ) : Type 0 where
   pub within : at ≤ length start
@@ -99,11 +100,13 @@ pub first-of : (ids : List ℕ) (a : ℕ) → getD (drop a ids) 0 0 ≡ getD ids
 first-of ids a = let z : a + 0 ≡ a = omega arith in getD-drop a ids 0 0 ∙ ap (λ (n : ℕ). getD ids n 0) z
 
 -- One block more of the list that is the same from place a on.
-module _ (m : ℕ) (befores afters ready durations : List ℕ) (latests : List ℤ) (ids start : List ℕ) (a n over f who end t : ℕ)
+module _ (m : ℕ) (befores afters ready durations : List ℕ) (latests : List ℤ) (ids start : List ℕ)
+    (a n over f who end t : ℕ)
     (e : drop a ids ≡ drop a start) where
   pub next-block : (b c d : List Stretch) → Extends (entryIn ready durations latests) (drop a start) n over
       → c ≡ give (whom who) t (getD ready (getD ids a 0) 0) b
-      → SolvedOnto m befores afters ready durations latests (take (a + n - a) (drop a ids)) (getD ready (getD ids a 0) 0) over
+      → SolvedOnto m befores afters ready durations latests (take (a + n - a) (drop a ids))
+      (getD ready (getD ids a 0) 0) over
       c d
       → length (take (a + n - a) (drop a ids)) ≤ f
       → onward (tiedIn m befores afters) (entryIn ready durations latests) f (whom who) end over (drop (a + n) start) d
@@ -113,7 +116,8 @@ module _ (m : ℕ) (befores afters ready durations : List ℕ) (latests : List �
       let g = tiedIn m befores afters in
       let entry : ℕ → Entry = entryIn ready durations latests in
       let one : getD ids a 0 ≡ getD (drop a start) 0 0 = same-at ids start a e ∙ sym (first-of start a) in
-      let moment : getD ready (getD ids a 0) 0 ≡ getD ready (getD (drop a start) 0 0) 0 = ap (λ (i : ℕ). getD ready i 0) one in
+      let moment : getD ready (getD ids a 0) 0
+      ≡ getD ready (getD (drop a start) 0 0) 0 = ap (λ (i : ℕ). getD ready i 0) one in
       ap (λ (l : List ℕ). onward g entry f (whom who) end over l d) (sym (drop-drop n a start))
       ∙ one-block g entry f (whom who) end (drop a start) t n over b c d x
       (p ∙ ap (λ (s : ℕ). give (whom who) t s b) moment)
@@ -126,7 +130,8 @@ module _ (m : ℕ) (befores afters ready durations : List ℕ) (latests : List �
       (part-same ids start a n e))
 
 -- A part of the list is listed.
-pub listed-part : (ready ids : List ℕ) (a n : ℕ) → Listed ready ids → a + n ≤ length ids → Listed ready (take n (drop a ids))
+pub listed-part : (ready ids : List ℕ) (a n : ℕ) → Listed ready ids → a + n ≤ length ids
+    → Listed ready (take n (drop a ids))
 listed-part ready ids a n h l =
     let sized : length (take n (drop a ids)) ≡ n = simp (length-take, length-drop) (omega arith) in
     record {
@@ -152,7 +157,8 @@ listed-keep ready ids p h = record {
     kept-place : (k : ℕ) → k < length (keep p ids)
         → (j : ℕ) × (j < length ids) × (getD ids j 0 ≡ getD (keep p ids) k 0)
     kept-place k i =
-        mem-place 0 ids (getD (keep p ids) k 0) (mem-keep p ids (getD (keep p ids) k 0) (place-mem 0 (keep p ids) k i) .0)
+        mem-place 0 ids (getD (keep p ids) k 0)
+        (mem-keep p ids (getD (keep p ids) k 0) (place-mem 0 (keep p ids) k i) .0)
 
 -- A block of which nobody, or somebody, is set aside.
 none-aside : (follows : ℕ → ℕ → Bool) (f : ℕ) (B : Block) (b : List Stretch) → setAside follows B ≡ none
@@ -188,7 +194,8 @@ module _ (m : ℕ) (befores afters ready durations : List ℕ) (latests : List �
   pub solved-nobody : (b : List Stretch) → aside ≡ 65535 → b ≡ solved (tiedIn m befores afters) deskEnd f B b
   unfolding optional
   solved-nobody b e =
-      none-aside (tiedIn m befores afters) f B b (a ready durations from work ∙ ap (optional entry) (whom-nobody aside e))
+      none-aside (tiedIn m befores afters) f B b
+      (a ready durations from work ∙ ap (optional entry) (whom-nobody aside e))
 
   -- The others are fewer.
   pub fewer : (aside ≡ 65535 → ⊥) → length (keep (λ i. not (eqb i aside)) ids) < length ids

@@ -1,7 +1,7 @@
-// The block method: cutting a set into blocks and solving a block call each other, the count of pieces falling. In a block
-// one piece is set aside; the others are a set to be cut again, and the piece set aside gets the slots that they leave free.
-// These are the slots before, between and behind the blocks of the others, since a block leaves none of its own slots free:
-// so slots are given away in the order of time.
+// The block method: cutting a set into blocks and solving a block call each other, the count of pieces falling. In a
+// block one piece is set aside; the others are a set to be cut again, and the piece set aside gets the slots that they
+// leave free. These are the slots before, between and behind the blocks of the others, since a block leaves none of its
+// own slots free: so slots are given away in the order of time.
 use blocksteps::aside::set_aside;
 use blocksteps::aside::without;
 use blocksteps::board::NOBODY;

@@ -21,15 +21,20 @@ abbrev μ-loop : tie.MeasureT-loop
 
 -- the block gathered is the first of the rest of the list
 extent : (c : tie.After-gather-block Inv-loop μ-loop) (latests : List ℤ)
-    → Extends (entryIn (c .before .before .before .before .before .before .args .ready .now) (c .before .before .before .before .before .before .args .durations .now) latests)
-    (drop (c .before .before .before .before .loop .at) (c .before .before .before .before .before .before .args .ids .now)) (c .gather-block .result .count) (c .gather-block .result .end)
+    → Extends
+    (entryIn (c .before .before .before .before .before .before .args .ready .now)
+    (c .before .before .before .before .before .before .args .durations .now) latests)
+    (drop (c .before .before .before .before .loop .at)
+    (c .before .before .before .before .before .before .args .ids .now)) (c .gather-block .result .count)
+    (c .gather-block .result .end)
 extent c latests =
     let a = c .before .before .before .before .before .before .args in
     let s = c .before .before .before .before .loop in
     rw (same-rest (a .ids .now) (a .ids .now) (s .at) refl) at (c .gather-block .ensures latests)
 
 inside : (c : tie.After-gather-block Inv-loop μ-loop)
-    → c .before .before .before .before .loop .at + c .gather-block .result .count ≤ length (c .before .before .before .before .before .before .args .ids .now)
+    → c .before .before .before .before .loop .at + c .gather-block .result .count ≤ length
+    (c .before .before .before .before .before .before .args .ids .now)
 inside c =
     let a = c .before .before .before .before .before .before .args in
     let s = c .before .before .before .before .loop in

@@ -59,7 +59,8 @@ loop-holds c =
     c .lateness .ensures ∙ ap (λ (z : ℤ). pos (getD (a .untils .now) 0 0) -ℤ z) (toZ-ofZ f) in (
       omega arith,
       omega arith,
-      back (c .lateness .result) (c .lateness .ok) ∙ e ∙ worst-none (lateIn (a .latests .now) (a .pieces .now) (a .untils .now)) (a .count),
+      back (c .lateness .result) (c .lateness .ok) ∙ e
+          ∙ worst-none (lateIn (a .latests .now) (a .pieces .now) (a .untils .now)) (a .count),
     )
 
 sub-k : tie.Need-sub-k Inv-loop μ-loop

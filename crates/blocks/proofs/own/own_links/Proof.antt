@@ -31,14 +31,17 @@ element-copy-out-a : tie.Need-element-copy-out-a Inv-loop μ-loop
 element-copy-out-a c = omega (arith, c .before .before .before .pre .0 .few)
 
 cast-if1 : tie.Need-cast-if1 Inv-loop μ-loop
-cast-if1 c = omega (arith, c .before .before .before .before .pre .0 .before-known (c .before .before .before .loop .k) (omega arith))
+cast-if1 c = omega
+    (arith, c .before .before .before .before .pre .0 .before-known (c .before .before .before .loop .k) (omega arith))
 
 element-copy-out-if1 : tie.Need-element-copy-out-if1 Inv-loop μ-loop
-element-copy-out-if1 c = c .before .before .before .before .pre .0 .before-known (c .before .before .before .loop .k) (omega arith)
+element-copy-out-if1 c = c .before .before .before .before .pre .0 .before-known (c .before .before .before .loop .k)
+    (omega arith)
 
 cast-if2 : tie.Need-cast-if2 Inv-loop μ-loop
 cast-if2 c =
-    let L = c .before .before .before .before .before in omega (arith, L .before .pre .0 .after-known (L .loop .k) (omega arith))
+    let L = c .before .before .before .before .before in omega
+    (arith, L .before .pre .0 .after-known (L .loop .k) (omega arith))
 
 element-copy-out-if2 : tie.Need-element-copy-out-if2 Inv-loop μ-loop
 element-copy-out-if2 c =
@@ -48,13 +51,15 @@ mul-own-befores : tie.Need-mul-own-befores Inv-loop μ-loop
 mul-own-befores c = omega (arith, c .before .before .before .before .before .before .before .before .pre .0 .few)
 
 element-write-own-befores : tie.Need-element-write-own-befores Inv-loop μ-loop
-element-write-own-befores c = omega (arith, c .before .before .before .before .before .before .before .before .pre .0 .few)
+element-write-own-befores c = omega
+    (arith, c .before .before .before .before .before .before .before .before .pre .0 .few)
 
 mul-own-afters : tie.Need-mul-own-afters Inv-loop μ-loop
 mul-own-afters c = omega (arith, c .before .before .before .before .before .before .before .before .pre .0 .few)
 
 element-write-own-afters : tie.Need-element-write-own-afters Inv-loop μ-loop
-element-write-own-afters c = omega (arith, c .before .before .before .before .before .before .before .before .pre .0 .few)
+element-write-own-afters c = omega
+    (arith, c .before .before .before .before .before .before .before .before .pre .0 .few)
 
 add-count : tie.Need-add-count Inv-loop μ-loop
 add-count c = omega (arith, c .before .before .before .before .before .before .before .before .pre .0 .few)
@@ -74,10 +79,20 @@ loop-again c =
     let ka = p .after-known (s .k) (omega arith) in
     let o = s .inv .2 in
     ⊎-elim
-    (λ w. (omega arith, omega (arith, w .5), rw (w .3, w .4, w .5) (own-more _ _ _ _ (s .k) _ _ _ o (omega (arith, p .few)) kb ka)))
+    (λ w. (
+      omega arith,
+      omega (arith, w .5),
+      rw (w .3, w .4, w .5)
+          (own-more _ _ _ _ (s .k) _ _ _ o (omega (arith, p .few)) kb ka),
+    ))
     (⊎-elim
     (λ w. (omega arith, omega (arith, w .5), rw (w .3, w .4, w .5) (to-elsewhere _ _ _ _ (s .k) _ _ _ o (w .2 .left))))
-    (λ w. (omega arith, omega (arith, w .3), rw (w .1, w .2, w .3) (from-elsewhere _ _ _ _ (s .k) _ _ _ o (w .0 .left)))))
+    (λ w. (
+      omega arith,
+      omega (arith, w .3),
+      rw (w .1, w .2, w .3)
+          (from-elsewhere _ _ _ _ (s .k) _ _ _ o (w .0 .left)),
+    )))
     (c .if1 .came)
 
 returns : tie.Need-returns Inv-loop μ-loop

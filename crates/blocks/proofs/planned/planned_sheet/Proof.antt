@@ -20,7 +20,11 @@ desk-sheet-requires c κs =
     let s = own .before .before .before .before .before in
     let table = raised .last .1 .1 .1 .1 .1 .1 .1 .1 .1 .1 .0 in
     let w = s .pre .0 in (
-      (w .0, laid-entered (w .0) _ _ _ _ _ _ _ _ _ _ (w .1) table (raised .ensures (w .0) _ _ (w .1 .planned) (s .pre .1 .0)) _ _ _ _ (own .own-links .ensures)),
+      (
+        w .0,
+        laid-entered (w .0) _ _ _ _ _ _ _ _ _ _ (w .1) table
+            (raised .ensures (w .0) _ _ (w .1 .planned) (s .pre .1 .0)) _ _ _ _ (own .own-links .ensures),
+      ),
       s .pre .1 .1,
     )
 
@@ -31,7 +35,8 @@ returns c J l =
     let table = raised .last .1 .1 .1 .1 .1 .1 .1 .1 .1 .1 .0 in
     let walks = own .before .before .before .before .before .pre .1 .0 in
     c .desk-sheet .ensures J
-    (laid-entered J _ _ _ _ _ _ _ _ _ _ l table (raised .ensures J _ _ (l .planned) walks) _ _ _ _ (own .own-links .ensures))
+    (laid-entered J _ _ _ _ _ _ _ _ _ _ l table (raised .ensures J _ _ (l .planned) walks) _ _ _ _
+    (own .own-links .ensures))
 
 pub planned-sheet-spec : {M : Type 1} → statement M
 planned-sheet-spec =

@@ -1,4 +1,5 @@
--- `desk_sheet` meets its contract: the list of the desk's pieces in order stands for its entries in order, cut and solved.
+-- `desk_sheet` meets its contract: the list of the desk's pieces in order stands for its entries in order, cut and
+-- solved.
 use Rattle.blockrows.proofs.Worst.{back}
 use Rattle.blocksteps.proofs.Stored.{share-none}
 use Rattle.method.specs.Board.{boardIn}
@@ -24,8 +25,10 @@ slice-aggregate-first-blocks c = let o = c .before .desk-order in
     sym (length-take-le (o .result) (o .last .1 .1 .1 .1 .1 .1 .0) (omega (arith, l .sized, l .within)))
 
 first-blocks-requires : tie.Need-first-blocks-requires
-first-blocks-requires c κs = let s = c .before .before .before .before .before .before in
-    let o = c .before .before .before .before .desk-order in
+first-blocks-requires c κs =
+    let ordered = c .before .before .before .before in
+    let s = ordered .before .before in
+    let o = ordered .desk-order in
     let l = o .ensures in
     let ids = o .last .1 .1 .1 .1 .1 .1 .0 in
     let fits : o .result ≤ length ids = omega (arith, l .sized, l .within) in
@@ -41,8 +44,11 @@ slice-aggregate-cut-set c = let o = c .before .before .before .before .before .b
     sym (length-take-le (o .result) (o .last .1 .1 .1 .1 .1 .1 .0) (omega (arith, l .sized, l .within)))
 
 cut-set-requires : tie.Need-cut-set-requires
-cut-set-requires c κs = let s = c .before .before .before .before .before .before .before .before .before .before .before .before in
-    let o = c .before .before .before .before .before .before .before .before .before .before .desk-order in
+cut-set-requires c κs =
+    let rowed = c .before .before .before .before .before in
+    let ordered = rowed .before .before .before .before .before in
+    let s = ordered .before .before in
+    let o = ordered .desk-order in
     let l = o .ensures in
     let ids = o .last .1 .1 .1 .1 .1 .1 .0 in
     let fits : o .result ≤ length ids = omega (arith, l .sized, l .within) in
@@ -58,29 +64,37 @@ cut-set-requires c κs = let s = c .before .before .before .before .before .befo
 
 worst-lateness-requires : tie.Need-worst-lateness-requires
 unfolding boardIn
-worst-lateness-requires c κs = let s = c .before .before .before .before .before .before .before .before .before .before .before .before .before .before .before .before in
-    let o = c .before .before .before .before .before .before .before .before .before .before .before .before .before .before .desk-order in
+worst-lateness-requires c κs =
+    let cut = c .before .before .before in
+    let rowed = cut .before .before .before .before .before .before in
+    let ordered = rowed .before .before .before .before .before in
+    let s = ordered .before .before in
+    let o = ordered .desk-order in
     let l = o .ensures in
     let ids = o .last .1 .1 .1 .1 .1 .1 .0 in
     let fits : o .result ≤ length ids = omega (arith, l .sized, l .within) in
     let sized : length (take (o .result) ids) ≡ o .result = length-take-le (o .result) ids fits in
     let w = s .pre .0 in
-    let k = c .before .before .before .cut-set in
+    let k = cut .cut-set in
     let board = k .last .1 .1 .1 .1 .1 .1 .1 .1 .1 .1 .1 in
     sheet-dated (w .0) _ _ _ _ _ _ _ _ (s .args .desk) (w .1) ids (o .result) l (k .result) _ (board .1 .0) _
     (k .ensures .1) (omega (arith, k .ensures .0 .few, l .within, share-none, sized))
 
 returns : tie.Need-returns
 unfolding boardIn
-returns c J e = let s = c .before .before .before .before .before .before .before .before .before .before .before .before .before .before .before .before .before in
-    let o = c .before .before .before .before .before .before .before .before .before .before .before .before .before .before .before .desk-order in
+returns c J e =
+    let cut = c .before .before .before .before in
+    let rowed = cut .before .before .before .before .before .before in
+    let ordered = rowed .before .before .before .before .before in
+    let s = ordered .before .before in
+    let o = ordered .desk-order in
     let l = o .ensures in
     let ids = o .last .1 .1 .1 .1 .1 .1 .0 in
     let fits : o .result ≤ length ids = omega (arith, l .sized, l .within) in
     let sized : length (take (o .result) ids) ≡ o .result = length-take-le (o .result) ids fits in
-    let k = c .before .before .before .before .cut-set in
+    let k = cut .cut-set in
     let board = k .last .1 .1 .1 .1 .1 .1 .1 .1 .1 .1 .1 in
-    let b = c .before .before .before .before .before .before .before .before .before .before .first-blocks in
+    let b = rowed .first-blocks in
     let late = c .worst-lateness in
     let pieces = r-count J _ _ _ _ _ _ _ _ (s .args .desk) e ids (o .result) l in
     record {
@@ -90,7 +104,8 @@ returns c J e = let s = c .before .before .before .before .before .before .befor
           sheet-runs J _ _ _ _ _ _ _ _ (s .args .desk) e ids (o .result) l (k .result) _ _ _ (k .ensures .1);
       worst-is =
           back (late .result) (late .ok) ∙ late .ensures
-          ∙ sheet-worst J _ _ _ _ _ _ _ _ (s .args .desk) e ids (o .result) l (k .result) _ (board .1 .0) _ (k .ensures .1);
+          ∙ sheet-worst J _ _ _ _ _ _ _ _ (s .args .desk) e ids (o .result) l (k .result) _ (board .1 .0) _
+          (k .ensures .1);
       few-blocks = omega (arith, b .ensures .few, pieces, sized);
       few-runs = omega (arith, k .ensures .0 .few, pieces, share-none, sized);
     }

@@ -33,7 +33,8 @@ returns-2 c = let a = c .before .before .before .before .before .args in
     record { sfits = c .before .before .before .costs-less-arg .given } in
     let fb : SFits w32 (getD (a .latests .now) (a .id) (pos 0)) =
     record { sfits = c .before .before .costs-less-arg2 .given } in
-    best-stays (a .latests .now) (a .best) (a .id) (c .before .before .before .before .before .pre .0) (c .before .before .before .before .before .pre .1 (c .before .before .before .before .if1 .left))
+    best-stays (a .latests .now) (a .best) (a .id) (c .before .before .before .before .before .pre .0)
+    (c .before .before .before .before .before .pre .1 (c .before .before .before .before .if1 .left))
     (less-read (getD (a .latests .now) (a .best) (pos 0)) (getD (a .latests .now) (a .id) (pos 0)) (a .best) (a .id)
     (c .before .costs-less .result) fa fb (c .before .costs-less .ensures) ∙ c .if2 .taken)
 
@@ -43,7 +44,8 @@ returns-3 c = let a = c .before .before .before .before .before .args in
     record { sfits = c .before .before .before .costs-less-arg .given } in
     let fb : SFits w32 (getD (a .latests .now) (a .id) (pos 0)) =
     record { sfits = c .before .before .costs-less-arg2 .given } in
-    new-best (a .latests .now) (a .best) (a .id) (c .before .before .before .before .before .pre .0) (c .before .before .before .before .before .pre .1 (c .before .before .before .before .if1 .left))
+    new-best (a .latests .now) (a .best) (a .id) (c .before .before .before .before .before .pre .0)
+    (c .before .before .before .before .before .pre .1 (c .before .before .before .before .if1 .left))
     (less-read (getD (a .latests .now) (a .best) (pos 0)) (getD (a .latests .now) (a .id) (pos 0)) (a .best) (a .id)
     (c .before .costs-less .result) fa fb (c .before .costs-less .ensures) ∙ c .if2 .left)
 

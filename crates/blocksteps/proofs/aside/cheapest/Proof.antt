@@ -1,4 +1,5 @@
--- `cheapest` meets its contract: the best of the pieces from place k on is known, and from place 0 on it is the best of all.
+-- `cheapest` meets its contract: the best of the pieces from place k on is known, and from place 0 on it is the best of
+-- all.
 use Prim.Native.Nat.{ℕ, suc, _-_, _≤_, _<_}
 use mathlib.Core.Bool.{Bool}
 use mathlib.Core.List.{List}
@@ -23,7 +24,8 @@ abbrev μ-loop : tie.MeasureT-loop
 loop-holds : tie.Need-loop-holds Inv-loop μ-loop
 loop-holds c = (
   λ follows h ready durations.
-      best-of-none follows (entryIn ready durations (c .before .args .latests .now)) (named-in ready durations _) (c .before .args .ids .now),
+      best-of-none follows (entryIn ready durations (c .before .args .latests .now)) (named-in ready durations _)
+      (c .before .args .ids .now),
   omega arith,
   λ ne. absurd (ne refl),
 )
@@ -38,13 +40,22 @@ shared-slice-read-id : tie.Need-shared-slice-read-id Inv-loop μ-loop
 shared-slice-read-id c = omega arith
 
 cast-i : tie.Need-cast-i Inv-loop μ-loop
-cast-i c = let k = c .before .before .loop .k in omega (arith, c .before .before .before .before .pre (k - 1) (omega arith))
+cast-i c = let k = c .before .before .loop .k in omega
+    (arith, c .before .before .before .before .pre (k - 1) (omega arith))
 
 element-copy-out-if1 : tie.Need-element-copy-out-if1 Inv-loop μ-loop
-element-copy-out-if1 c = let k = c .before .before .loop .k in omega (arith, c .before .before .before .before .pre (k - 1) (omega arith))
+element-copy-out-if1 c = let k = c .before .before .loop .k in omega
+    (arith, c .before .before .before .before .pre (k - 1) (omega arith))
 
 cheaper-requires : tie.Need-cheaper-requires Inv-loop μ-loop
-cheaper-requires c κs = (let k = c .before .before .before .before .loop .k in omega (arith, c .before .before .before .before .before .before .pre (k - 1) (omega arith)), c .before .before .before .before .loop .inv .2)
+cheaper-requires c κs = (
+  let k = c .before .before .before .before .loop .k in omega (
+    arith,
+    c .before .before .before .before .before .before .pre (k - 1)
+        (omega arith),
+  ),
+  c .before .before .before .before .loop .inv .2,
+)
 
 loop-less : tie.Need-loop-less Inv-loop μ-loop
 loop-less c = omega arith
@@ -55,7 +66,8 @@ loop-again c = let a = c .before .before .before .before .before .before .before
     let e : suc (s .k - 1) ≡ s .k = omega arith in (
       λ follows h ready durations.
           best-take follows (entryIn ready durations (a .latests .now)) (named-in ready durations _) (a .ids .now) _ h
-          (s .k - 1) (s .best) (omega arith) (c .before .before .before .before .before .before .before .pre (s .k - 1) (omega arith))
+          (s .k - 1) (s .best) (omega arith)
+          (c .before .before .before .before .before .before .before .pre (s .k - 1) (omega arith))
           (rw e (s .inv .0 follows h ready durations)) (c .cheaper .result) (c .before .if1 .taken)
           (c .cheaper .ensures .chosen ready durations),
       omega arith,
@@ -71,7 +83,8 @@ loop-again-2 c = let a = c .before .before .before .before .before .before .args
     let e : suc (s .k - 1) ≡ s .k = omega arith in (
       λ follows h ready durations.
           best-skip follows (entryIn ready durations (a .latests .now)) (named-in ready durations _) (a .ids .now) _ h
-          (s .k - 1) (s .best) (omega arith) (c .before .before .before .before .before .before .pre (s .k - 1) (omega arith))
+          (s .k - 1) (s .best) (omega arith)
+          (c .before .before .before .before .before .before .pre (s .k - 1) (omega arith))
           (rw e (s .inv .0 follows h ready durations)) (c .if1 .left),
       omega arith,
       s .inv .2,
@@ -80,7 +93,8 @@ loop-again-2 c = let a = c .before .before .before .before .before .before .args
 returns : tie.Need-returns Inv-loop μ-loop
 returns c follows h ready durations from work = let a = c .before .before .before .args in
     let e : c .before .loop .k ≡ 0 = omega arith in
-    best-of-all follows (entryIn ready durations (a .latests .now)) (named-in ready durations _) (a .ids .now) _ from work
+    best-of-all follows (entryIn ready durations (a .latests .now)) (named-in ready durations _)
+    (a .ids .now) _ from work
     (rw e at (c .before .loop .inv .0 follows h ready durations))
 
 pub cheapest-spec : {M : Type 1} → statement M

@@ -40,16 +40,20 @@ element-copy-out-a : tie.Need-element-copy-out-a Inv-loop μ-loop
 element-copy-out-a c = omega (arith, c .before .before .before .pre .0 .few)
 
 cast-a : tie.Need-cast-a Inv-loop μ-loop
-cast-a c = omega (arith, c .before .before .before .before .pre .0 .after-known (c .before .before .before .loop .k) (omega arith))
+cast-a c = omega
+    (arith, c .before .before .before .before .pre .0 .after-known (c .before .before .before .loop .k) (omega arith))
 
 element-copy-out-if1 : tie.Need-element-copy-out-if1 Inv-loop μ-loop
-element-copy-out-if1 c = c .before .before .before .before .pre .0 .before-known (c .before .before .before .loop .k) (omega arith)
+element-copy-out-if1 c = c .before .before .before .before .pre .0 .before-known (c .before .before .before .loop .k)
+    (omega arith)
 
 element-copy-out-if2 : tie.Need-element-copy-out-if2 Inv-loop μ-loop
-element-copy-out-if2 c = c .before .before .before .before .before .before .pre .0 .after-known (c .before .before .before .before .before .loop .k) (omega arith)
+element-copy-out-if2 c = c .before .before .before .before .before .before .pre .0 .after-known
+    (c .before .before .before .before .before .loop .k) (omega arith)
 
 element-write-marks : tie.Need-element-write-marks Inv-loop μ-loop
-element-write-marks c = c .before .before .before .before .before .before .before .before .pre .0 .before-known (c .before .before .before .before .before .before .before .loop .k) (omega arith)
+element-write-marks c = c .before .before .before .before .before .before .before .before .pre .0 .before-known
+    (c .before .before .before .before .before .before .before .loop .k) (omega arith)
 
 add-k : tie.Need-add-k Inv-loop μ-loop
 add-k c = omega (arith, c .before .before .before .before .before .before .pre .0 .few)
@@ -82,7 +86,8 @@ loop-again c = let p = c .before .before .before .before .before .before .pre .0
     (c .if1 .came)
 
 returns : tie.Need-returns Inv-loop μ-loop
-returns c ids h = let e : c .before .loop .k ≡ c .before .before .args .m = omega arith in rw (← e) (c .before .loop .inv .2 ids h)
+returns c ids h = let e : c .before .loop .k
+    ≡ c .before .before .args .m = omega arith in rw (← e) (c .before .loop .inv .2 ids h)
 
 pub mark-led-spec : {M : Type 1} → statement M
 mark-led-spec =

@@ -30,10 +30,12 @@ shared-slice-read-i : tie.Need-shared-slice-read-i Inv-loop μ-loop
 shared-slice-read-i c = omega arith
 
 cast-i : tie.Need-cast-i Inv-loop μ-loop
-cast-i c = omega (arith, c .before .before .before .before .before .before .pre .0 (c .before .before .loop .k) (omega arith))
+cast-i c = omega
+    (arith, c .before .before .before .before .before .before .pre .0 (c .before .before .loop .k) (omega arith))
 
 element-write-marks : tie.Need-element-write-marks Inv-loop μ-loop
-element-write-marks c = c .before .before .before .before .before .before .pre .0 (c .before .before .loop .k) (omega arith)
+element-write-marks c = c .before .before .before .before .before .before .pre .0 (c .before .before .loop .k)
+    (omega arith)
 
 add-k : tie.Need-add-k Inv-loop μ-loop
 add-k c = omega arith
@@ -44,8 +46,10 @@ loop-less c = omega arith
 loop-again : tie.Need-loop-again Inv-loop μ-loop
 loop-again c = (
   omega arith,
-  members-more (c .before .before .loop .marks) (c .before .before .before .before .before .before .args .ids .now) (c .before .before .loop .k) (omega arith)
-      (c .before .before .before .before .before .before .pre .0 (c .before .before .loop .k) (omega arith)) (c .before .before .loop .inv .1),
+  members-more (c .before .before .loop .marks) (c .before .before .before .before .before .before .args .ids .now)
+      (c .before .before .loop .k) (omega arith)
+      (c .before .before .before .before .before .before .pre .0 (c .before .before .loop .k) (omega arith))
+      (c .before .before .loop .inv .1),
 )
 
 returns : tie.Need-returns Inv-loop μ-loop

@@ -25,7 +25,9 @@ slice-read-id : tie.Need-slice-read-id Inv-loop μ-loop
 slice-read-id c = omega arith
 
 mul-ids : tie.Need-mul-ids Inv-loop μ-loop
-mul-ids c = omega (arith, c .before .before .before .before .good .0 .1, c .before .before .before .loop .inv .behind, c .before .before .before .loop .inv .sized)
+mul-ids c =
+    let turn = c .before .before .before in
+    omega (arith, turn .before .good .0 .1, turn .loop .inv .behind, turn .loop .inv .sized)
 
 slice-write-ids : tie.Need-slice-write-ids Inv-loop μ-loop
 slice-write-ids c = omega (arith, c .before .before .before .loop .inv .behind)

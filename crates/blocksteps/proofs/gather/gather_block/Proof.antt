@@ -47,7 +47,8 @@ open-end-requires c κs = omega (arith, c .before .before .before .before .befor
 loop-holds : tie.Need-loop-holds Inv-loop μ-loop
 unfolding entryIn
 loop-holds c = (
-  λ latests. rw (c .before .wide .ensures .same) (gathering-one _ _ (c .before .before .before .before .before .before .pre .1)),
+  λ latests. rw (c .before .wide .ensures .same)
+      (gathering-one _ _ (c .before .before .before .before .before .before .pre .1)),
   omega arith,
   c .open-end .ensures,
   omega arith,
@@ -94,11 +95,14 @@ wide-requires-2 : tie.Need-wide-requires-2 Inv-loop μ-loop
 wide-requires-2 c κs = search needs
 
 add-work : tie.Need-add-work Inv-loop μ-loop
-add-work c = omega (arith, c .before .before .before .before .before .before .before .before .before .before .before .before .before .pre .0 .few)
+add-work c =
+    let turn = c .before .before .before .before .before .before in
+    omega (arith, turn .before .before .before .before .before .before .before .pre .0 .few)
 
 open-end-requires-2 : tie.Need-open-end-requires-2 Inv-loop μ-loop
 open-end-requires-2 c κs =
-    let p = c .before .before .before .before .before .before .before .before .before .before .before .before .before .pre .0 in
+    let turn = c .before .before .before .before .before .before in
+    let p = turn .before .before .before .before .before .before .before .pre .0 in
     omega (arith, p .few, p .early 0 (omega arith))
 
 add-k : tie.Need-add-k Inv-loop μ-loop
@@ -111,8 +115,13 @@ loop-again : tie.Need-loop-again Inv-loop μ-loop
 unfolding entryIn
 loop-again c = (
   λ latests. rw (c .before .wide2 .ensures .same)
-      (gathering-more _ _ _ _ (c .before .before .before .before .before .before .before .loop .inv .0 latests) (omega arith)
-      (omega (arith, c .before .before .before .before .before .before .before .loop .inv .2, c .before .before .before .if1 .left))),
+      (gathering-more _ _ _ _ (c .before .before .before .before .before .before .before .loop .inv .0 latests)
+      (omega arith)
+      (omega (
+        arith,
+        c .before .before .before .before .before .before .before .loop .inv .2,
+        c .before .before .before .if1 .left,
+      ))),
   omega arith,
   c .open-end2 .ensures,
   omega (arith, c .before .wide2 .ensures .small),

@@ -1,7 +1,7 @@
--- Cutting a set and solving a block meet their contracts together: the count of pieces falls. What is left to cut from here
--- gives the board of the whole set (`CutTo`). Steps are named by what has happened: in `cut_set` the `start` of the function,
--- the `turn` of its loop, the block `gathered`, the slots before it `given` away; in `solve_block` the `start`, the piece
--- `chosen`, that there is `some-one`, the others `taken` into the list, and that list `cut`.
+-- Cutting a set and solving a block meet their contracts together: the count of pieces falls. What is left to cut from
+-- here gives the board of the whole set (`CutTo`). Steps are named by what has happened: in `cut_set` the `start` of
+-- the function, the `turn` of its loop, the block `gathered`, the slots before it `given` away; in `solve_block` the
+-- `start`, the piece `chosen`, that there is `some-one`, the others `taken` into the list, and that list `cut`.
 use Prim.Native.Nat.{ℕ, _+_, _-_, _*_, _≤_, _<_}
 use mathlib.Core.Path.{_≡_, refl, sym, _∙_}
 use native.Mathlib.Omega.{arith}
@@ -72,14 +72,14 @@ solve-block-calls t = (
 )
 
 abbrev cut-set-Inv-loop : cut-set-lts.InvT-loop
-cut-set-Inv-loop m befores afters ready durations latests ids₀ aside from end marks₀ pieces₀ froms₀ untils₀ count k₀ t₀ at₀
-    ids marks pieces froms untils k t at =
+cut-set-Inv-loop m befores afters ready durations latests ids₀ aside from end marks₀ pieces₀ froms₀ untils₀ count k₀ t₀
+    at₀ ids marks pieces froms untils k t at =
     CutTo (tiedIn m befores afters) (entryIn ready durations latests) (whom aside) from end ids₀
     (boardIn count pieces₀ froms₀ untils₀) count ids marks pieces froms untils k t at
 
 abbrev cut-set-μ-loop : cut-set-lts.MeasureT-loop
-cut-set-μ-loop m befores afters ready durations latests ids₀ aside from end marks₀ pieces₀ froms₀ untils₀ count k₀ t₀ at₀
-    ids marks pieces froms untils k t at =
+cut-set-μ-loop m befores afters ready durations latests ids₀ aside from end marks₀ pieces₀ froms₀ untils₀ count k₀ t₀
+    at₀ ids marks pieces froms untils k t at =
     length ids₀ - at
 
 -- the block gathered is the first of the rest of the list
@@ -134,7 +134,8 @@ cut-set-cast-first t c =
     let start = turn .before .before in
     let s = turn .loop in
     let a = start .args in
-    let e : getD (s .ids) (s .at) 0 ≡ getD (a .ids .now) (s .at) 0 = same-at (s .ids) (a .ids .now) (s .at) (s .inv .rest) in
+    let e : getD (s .ids) (s .at) 0
+    ≡ getD (a .ids .now) (s .at) 0 = same-at (s .ids) (a .ids .now) (s .at) (s .inv .rest) in
     omega (arith, start .pre .1 .listed .known (s .at) (omega arith))
 
 cut-set-mul-start : (t : ℕ)
@@ -144,17 +145,20 @@ cut-set-mul-start t c =
     let start = turn .before .before in
     let s = turn .loop in
     let a = start .args in
-    let e : getD (s .ids) (s .at) 0 ≡ getD (a .ids .now) (s .at) 0 = same-at (s .ids) (a .ids .now) (s .at) (s .inv .rest) in
+    let e : getD (s .ids) (s .at) 0
+    ≡ getD (a .ids .now) (s .at) 0 = same-at (s .ids) (a .ids .now) (s .at) (s .inv .rest) in
     omega (arith, start .pre .1 .listed .known (s .at) (omega arith))
 
 cut-set-element-copy-out-start : (t : ℕ)
-    → cut-set-lts.Need-element-copy-out-start (cut-set-calls t) (cut-set-at t) cut-set.Post cut-set-Inv-loop cut-set-μ-loop
+    → cut-set-lts.Need-element-copy-out-start (cut-set-calls t)
+    (cut-set-at t) cut-set.Post cut-set-Inv-loop cut-set-μ-loop
 cut-set-element-copy-out-start t c =
     let turn = c .before .before in
     let start = turn .before .before in
     let s = turn .loop in
     let a = start .args in
-    let e : getD (s .ids) (s .at) 0 ≡ getD (a .ids .now) (s .at) 0 = same-at (s .ids) (a .ids .now) (s .at) (s .inv .rest) in
+    let e : getD (s .ids) (s .at) 0
+    ≡ getD (a .ids .now) (s .at) 0 = same-at (s .ids) (a .ids .now) (s .at) (s .inv .rest) in
     omega (arith, start .pre .1 .listed .known (s .at) (omega arith))
 
 cut-set-mul-gather-block : (t : ℕ)
@@ -166,15 +170,18 @@ cut-set-sub-gather-block : (t : ℕ)
 cut-set-sub-gather-block t c = omega arith
 
 cut-set-part-gather-block-start : (t : ℕ)
-    → cut-set-lts.Need-part-gather-block-start (cut-set-calls t) (cut-set-at t) cut-set.Post cut-set-Inv-loop cut-set-μ-loop
+    → cut-set-lts.Need-part-gather-block-start (cut-set-calls t)
+    (cut-set-at t) cut-set.Post cut-set-Inv-loop cut-set-μ-loop
 cut-set-part-gather-block-start t c = omega arith
 
 cut-set-part-gather-block-end : (t : ℕ)
-    → cut-set-lts.Need-part-gather-block-end (cut-set-calls t) (cut-set-at t) cut-set.Post cut-set-Inv-loop cut-set-μ-loop
+    → cut-set-lts.Need-part-gather-block-end (cut-set-calls t)
+    (cut-set-at t) cut-set.Post cut-set-Inv-loop cut-set-μ-loop
 cut-set-part-gather-block-end t c = search needs
 
 cut-set-gather-block-requires : (t : ℕ)
-    → cut-set-lts.Need-gather-block-requires (cut-set-calls t) (cut-set-at t) cut-set.Post cut-set-Inv-loop cut-set-μ-loop
+    → cut-set-lts.Need-gather-block-requires (cut-set-calls t)
+    (cut-set-at t) cut-set.Post cut-set-Inv-loop cut-set-μ-loop
 cut-set-gather-block-requires t c κs =
     let more = c .before .before .before .before in
     let turn = more .before in
@@ -215,18 +222,21 @@ cut-set-sub-solve-block : (t : ℕ)
 cut-set-sub-solve-block t c = omega arith
 
 cut-set-part-solve-block-start : (t : ℕ)
-    → cut-set-lts.Need-part-solve-block-start (cut-set-calls t) (cut-set-at t) cut-set.Post cut-set-Inv-loop cut-set-μ-loop
+    → cut-set-lts.Need-part-solve-block-start (cut-set-calls t)
+    (cut-set-at t) cut-set.Post cut-set-Inv-loop cut-set-μ-loop
 cut-set-part-solve-block-start t c = omega arith
 
 cut-set-part-solve-block-end : (t : ℕ)
-    → cut-set-lts.Need-part-solve-block-end (cut-set-calls t) (cut-set-at t) cut-set.Post cut-set-Inv-loop cut-set-μ-loop
+    → cut-set-lts.Need-part-solve-block-end (cut-set-calls t)
+    (cut-set-at t) cut-set.Post cut-set-Inv-loop cut-set-μ-loop
 cut-set-part-solve-block-end t c =
     let gathered = c .before .before .before .before .before in
     let turn = gathered .before .before .before .before .before .before in
     omega (arith, inside t gathered, turn .loop .inv .sized)
 
 cut-set-solve-block-requires : (t : ℕ)
-    → cut-set-lts.Need-solve-block-requires (cut-set-calls t) (cut-set-at t) cut-set.Post cut-set-Inv-loop cut-set-μ-loop
+    → cut-set-lts.Need-solve-block-requires (cut-set-calls t)
+    (cut-set-at t) cut-set.Post cut-set-Inv-loop cut-set-μ-loop
 cut-set-solve-block-requires t c κs =
     let given = c .before .before .before .before .before in
     let gathered = given .before .before .before .before .before in
@@ -278,7 +288,8 @@ cut-set-loop-again t c =
       within = i;
       sized = same-len-mid (s .at) (s .at + n - s .at) (s .ids) part same ∙ s .inv .sized;
       rest =
-          drop-put (s .at) (s .at + n) (s .ids) part (omega arith) (omega (arith, s .inv .sized)) (same ∙ l ∙ omega arith)
+          drop-put (s .at) (s .at + n) (s .ids) part (omega arith) (omega (arith, s .inv .sized))
+          (same ∙ l ∙ omega arith)
           ∙ past-part (s .ids) (a .ids .now) (s .at) n (s .inv .rest);
       marks-sized = after .ensures .0 .marks-sized;
       tables = after .ensures .0 .tables;
@@ -294,13 +305,15 @@ cut-set-loop-again t c =
           );
       board = λ f h.
           next-block (a .m) (a .befores .now) (a .afters .now) (a .ready .now) (a .durations .now) (a .latests .now)
-          (s .ids) (a .ids .now) (s .at) n (gathered .gather-block .result .end) f (a .aside) (a .end) (s .t) (s .inv .rest)
+          (s .ids) (a .ids .now) (s .at) n (gathered .gather-block .result .end) f (a .aside) (a .end) (s .t)
+          (s .inv .rest)
           _ _ _ (extent t gathered) (given .give-slots .ensures .board) (after .ensures .1) (omega (arith, l))
           ∙ s .inv .board f h;
     }
 
 cut-set-give-slots-requires-2 : (t : ℕ)
-    → cut-set-lts.Need-give-slots-requires-2 (cut-set-calls t) (cut-set-at t) cut-set.Post cut-set-Inv-loop cut-set-μ-loop
+    → cut-set-lts.Need-give-slots-requires-2 (cut-set-calls t)
+    (cut-set-at t) cut-set.Post cut-set-Inv-loop cut-set-μ-loop
 cut-set-give-slots-requires-2 t c κs =
     let turn = c .before .before .before .before in
     let start = turn .before .before in
