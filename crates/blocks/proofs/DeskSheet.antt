@@ -28,7 +28,7 @@ use Rattle.laws.proofs.Hours.{always_open}
 use Rattle.laws.proofs.Slots.{mem_desk_pieces}
 use Rattle.laws.proofs.Finishing.{horizon_most}
 use Rattle.theory.proofs.Order.{mem_sorted, sorted_length}
-use Rattle.theory.proofs.BlockMethod.{waits, in_order}
+use Rattle.theory.proofs.BlockMethod.{waits, in_order_lem}
 use Rattle.theory.proofs.Turns.{turns_of_lem}
 use Rattle.theory.proofs.RunOrder.{runs-true, runs_within}
 use Rattle.demands.proofs.OneDesk.{desk_hours}
@@ -100,7 +100,7 @@ module _ (J : Job) (n m : ℕ) (desks durations befores afters ready : List ℕ)
   from_own : (x : Entry) → Mem x sorted_own → (i : ℕ) × Mem i own × (x ≡ entry_of i)
   from_own x k =
       mem_of_map entry_of own x
-      (mem_sorted waits (map entry_of own) x (subst (λ (l : List Entry). Mem x l) (in_order (map entry_of own)) k))
+      (mem_sorted waits (map entry_of own) x (subst (λ (l : List Entry). Mem x l) (in_order_lem (map entry_of own)) k))
 
   listed-entries : map entry_of list ≡ in_order (entries J d)
   unfolding desk_list entry_in
@@ -117,7 +117,7 @@ module _ (J : Job) (n m : ℕ) (desks durations befores afters ready : List ℕ)
   list_count : length list ≡ length (desk_pieces J d)
   unfolding desk_list
   list_count =
-      length-map sorted_own (λ x. x.number) ∙ ap length (in_order (map entry_of own))
+      length-map sorted_own (λ x. x.number) ∙ ap length (in_order_lem (map entry_of own))
       ∙ sorted_length waits (map entry_of own) ∙ length-map own entry_of ∙ ap length (sym own_pieces)
 
   entries_count : length (entries J d) ≡ length (desk_pieces J d)
@@ -185,7 +185,7 @@ module _ (J : Job) (n m : ℕ) (desks durations befores afters ready : List ℕ)
       unfolding entries entry
       on_desk_lem x k =
           let w = mem_of_map (entry J) (desk_pieces J d) x
-          (mem_sorted waits (entries J d) x (subst (λ (l : List Entry). Mem x l) (in_order (entries J d)) k)) in
+          (mem_sorted waits (entries J d) x (subst (λ (l : List Entry). Mem x l) (in_order_lem (entries J d)) k)) in
           let own = mem_desk_pieces J d w.0 w.1 in
           rw w.2 (omega (arith, own.0, e.count), own.1)
 

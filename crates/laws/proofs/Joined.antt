@@ -32,11 +32,13 @@ sum_plus f g (x ∷ xs) =
 
 -- Where a member of such a list comes from.
 pub mem_of_map : {A B : Type 0} (f : A → B) (l : List A) (y : B) → Mem y (map f l) → (x : A) × Mem x l × (y ≡ f x)
+mem_of_map {A = A} {B = B} f [] y never = elim never [ ]
 mem_of_map f (x ∷ xs) y (here e) = (x, here refl, e)
 mem_of_map f (x ∷ xs) y (there m) = let w = mem_of_map f xs y m in (w.0, there w.1, w.2)
 
 pub mem_of_joined : {A : Type 0} (ls : List (List A)) (x : A) → Mem x (joined ls) → (l : List A) × Mem l ls × Mem x l
 unfolding joined
+mem_of_joined {A = A} [] _ m = elim m [ ]
 mem_of_joined (l ∷ ls) x m = go (Memᴰ.append_cases l m) (mem_of_joined ls x)
   where
     go : Mem x l ⊎ Mem x (joined ls) → (Mem x (joined ls) → (k : List _) × Mem k ls × Mem x k)

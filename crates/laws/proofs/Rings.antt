@@ -5,7 +5,7 @@ use Prim.Native.Nat.{ℕ, zero, suc, ◌+◌, ◌≤◌, ◌<◌}
 use mathlib.Core.Bool.{Bool, true, false, ◌&&◌}
 use mathlib.Core.List.Memᴰ.{head as here}
 use mathlib.Core.List.Memᴰ.{tail as there}
-use mathlib.Core.List.{List, ◌∷◌, Memᴰ as Mem}
+use mathlib.Core.List.{List, [], ◌∷◌, Memᴰ as Mem}
 use mathlib.Core.Logic.{◌⊎◌, inl, inr}
 use mathlib.Core.Option.{none, some}
 use mathlib.Core.Path.{◌≡◌, refl, sym, ap, ◌∙◌}
@@ -168,6 +168,7 @@ module _ (follows : ℕ → ℕ → Bool) where
   -- No ring is found: none of the list leads to itself.
   first_none : (n : ℕ) (l : List ℕ) → first_on_ring follows n l ≡ none → (i : ℕ) → Mem i l → via follows n i i ≡ false
   unfolding first_on_ring when
+  first_none n [] h i m = elim m [ ]
   first_none n (x ∷ xs) h i m = by_test (via follows n x x)
       (λ e. none_or_some (sym (rw (e, when) at h)))
       (λ e. go e m (first_none n xs (rw (e, when) at h)))

@@ -137,6 +137,7 @@ least_start z (x ∷ xs) =
 
 pub least_mem : (z : ℤ) (l : List ℤ) (x : ℤ) → Mem x l → least_z z l ≼ x
 unfolding least_z
+least_mem z [] _ never = elim never [ ]
 least_mem z (y ∷ ys) x (here e) =
     let h : least_z z (y ∷ ys) ≼ y = lesser_left y (least_z z ys) in rw e h
 least_mem z (y ∷ ys) x (there m) =
@@ -164,6 +165,7 @@ greatest_z_start z (x ∷ xs) =
 
 pub greatest_z_mem : (z : ℤ) (l : List ℤ) (x : ℤ) → Mem x l → x ≼ greatest_z z l
 unfolding greatest_z
+greatest_z_mem z [] _ never = elim never [ ]
 greatest_z_mem z (y ∷ ys) x (here e) =
     let h : y ≼ greatest_z z (y ∷ ys) = greater_z_left y (greatest_z z ys) in rw e h
 greatest_z_mem z (y ∷ ys) x (there m) =

@@ -61,6 +61,7 @@ module _ (J : Job) where
   -- The most urgent of a list is of the list, and goes before every other of it.
   pub urgent_none : (l : List ℕ) → most_urgent J l ≡ none → (i : ℕ) → Mem i l → ⊥
   unfolding most_urgent
+  urgent_none [] h i m = elim m [ ]
   urgent_none (x ∷ xs) h i m = none_or_some (sym h)
 
   First : ℕ → List ℕ → Type 0

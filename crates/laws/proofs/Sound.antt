@@ -22,6 +22,7 @@ use Rattle.laws.proofs.Rings as R
 
 -- A member stands at some place of its list.
 pub mem_place : {A : Type 0} (z : A) (l : List A) (x : A) → Mem x l → (k : ℕ) × (k < length l) × (get_or l k z ≡ x)
+mem_place {A = A} z [] _ never = elim never [ ]
 mem_place z (y ∷ ys) x (here e) = (0, omega arith, sym e)
 mem_place z (y ∷ ys) x (there m) = let w = mem_place z ys x m in (suc w.0, omega (arith, w.1), w.2)
 

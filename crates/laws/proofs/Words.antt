@@ -72,6 +72,7 @@ kept true x y l m = there m
 kept false x y l m = m
 
 pub mem_map : {A B : Type 0} (f : A → B) (l : List A) (x : A) → Mem x l → Mem (f x) (map f l)
+mem_map {A = A} {B = B} f [] _ never = elim never [ ]
 mem_map f (y ∷ ys) x (here e) = here (ap f e)
 mem_map f (y ∷ ys) x (there m) = there (mem_map f ys x m)
 
@@ -87,11 +88,13 @@ module _ {A : Type 0} (p : A → Bool) where
   -- What is kept is of the list and passes; and all that is.
   pub keep_mem : (l : List A) (x : A) → Mem x l → p x ≡ true → Mem x (keep p l)
   unfolding keep when
+  keep_mem [] _ never h = elim never [ ]
   keep_mem (y ∷ ys) x (here e) h = let k : p y ≡ true = ap p (sym e) ∙ h in rw (k, when) (here e)
   keep_mem (y ∷ ys) x (there m) h = kept (p y) x y (keep p ys) (keep_mem ys x m h)
 
   pub mem_keep : (l : List A) (x : A) → Mem x (keep p l) → Mem x l × (p x ≡ true)
   unfolding keep when
+  mem_keep [] _ m = elim m [ ]
   mem_keep (y ∷ ys) x m = go (p y) refl (λ k. mem_keep ys x k) m
     where
       under : Mem x ys × (p x ≡ true) → Mem x (y ∷ ys) × (p x ≡ true)
@@ -108,6 +111,7 @@ module _ {A : Type 0} (p : A → Bool) where
 
   pub every_mem : (l : List A) → every p l ≡ true → (x : A) → Mem x l → p x ≡ true
   unfolding every
+  every_mem [] h _ never = elim never [ ]
   every_mem (y ∷ ys) h x (here e) = ap p e ∙ (and_true (p y) (every p ys) h).0
   every_mem (y ∷ ys) h x (there m) = every_mem ys (and_true (p y) (every p ys) h).1 x m
 
@@ -129,6 +133,7 @@ module _ {A : Type 0} (p : A → Bool) where
 
   pub one_of_intro : (l : List A) (x : A) → Mem x l → p x ≡ true → one_of p l ≡ true
   unfolding one_of
+  one_of_intro [] _ never h = elim never [ ]
   one_of_intro (y ∷ ys) x (here e) h = or_left (p y) (one_of p ys) (ap p (sym e) ∙ h)
   one_of_intro (y ∷ ys) x (there m) h = or_right (p y) (one_of p ys) (one_of_intro ys x m h)
 
@@ -149,6 +154,7 @@ module _ {A : Type 0} (p : A → Bool) where
 -- Numbers in a row.
 pub mem_row : (n a i : ℕ) → Mem i (row a n) → (a ≤ i) × (i < a + n)
 unfolding row
+mem_row zero a i never = elim never [ ]
 mem_row (suc n) a i (here e) = (omega (arith, e), omega (arith, e))
 mem_row (suc n) a i (there m) = let h = mem_row n (suc a) i m in (omega arith, omega arith)
 
@@ -201,6 +207,7 @@ module _ {A : Type 0} (f g : A → ℕ) where
   pub sum_gap : (c : ℕ) (l : List A) → ((x : A) → Mem x l → f x ≤ g x) → (x : A) → Mem x l → f x + c ≤ g x
       → sum (map f l) + c ≤ sum (map g l)
   unfolding sum
+  sum_gap c [] h _ never k = elim never [ ]
   sum_gap c (y ∷ ys) h x (here e) k =
       let rest : sum (map f ys) ≤ sum (map g ys) = sum_le ys (on_tail y ys h) in
       let d : f y + c ≤ g y = rw e at k in
@@ -220,6 +227,7 @@ sum_same c (x ∷ xs) =
 
 pub sum_mem : {A : Type 0} (f : A → ℕ) (l : List A) (x : A) → Mem x l → f x ≤ sum (map f l)
 unfolding sum
+sum_mem {A = A} f [] _ never = elim never [ ]
 sum_mem f (y ∷ ys) x (here e) = let q : f x ≡ f y = ap f e in omega arith
 sum_mem f (y ∷ ys) x (there m) = let ih : f x ≤ sum (map f ys) = sum_mem f ys x m in omega arith
 
@@ -248,6 +256,7 @@ greatest_start a (x ∷ xs) =
 
 pub greatest_mem : (a : ℕ) (l : List ℕ) (x : ℕ) → Mem x l → x ≤ greatest a l
 unfolding greatest
+greatest_mem a [] _ never = elim never [ ]
 greatest_mem a (y ∷ ys) x (here e) = omega (arith, e, greater_left y (greatest a ys))
 greatest_mem a (y ∷ ys) x (there m) =
     let ih : x ≤ greatest a ys = greatest_mem a ys x m in omega (arith, greater_right y (greatest a ys))
@@ -283,6 +292,7 @@ module _ {A : Type 0} (p q : A → Bool) where
   pub keep_lt : (l : List A) → ((x : A) → Mem x l → p x ≡ true → q x ≡ true) → (x : A) → Mem x l → p x ≡ false → q x ≡ true
       → length (keep p l) < length (keep q l)
   unfolding keep
+  keep_lt [] h _ never np qx = elim never [ ]
   keep_lt (y ∷ ys) h x (here e) np qx =
       let rest : length (keep p ys) ≤ length (keep q ys) = keep_le ys (on_tail y ys h) in
       let a : p y ≡ false = ap p (sym e) ∙ np in

@@ -19,7 +19,7 @@ use Rattle.theory.proofs.Lists.{◌∈◌, Distinct}
 use Rattle.theory.proofs.Order.{Urgency, Ordered, mem_sorted, sorted_distinct, sorted_ordered}
 use Rattle.laws.proofs.Order.{number}
 use Rattle.theory.proofs.SetAside.{LinksAhead, keep_distinct}
-use Rattle.theory.proofs.BlockMethod.{waits, in_order}
+use Rattle.theory.proofs.BlockMethod.{waits, in_order_lem}
 
 -- By ready moment, then number, is a strict order.
 abbrev First : Entry → Entry → Type 0
@@ -89,7 +89,7 @@ pub record Good (follows : ℕ → ℕ → Bool) (es : List Entry) : Type 0 wher
 -- A set sorted is good.
 pub sorted_good : (follows : ℕ → ℕ → Bool) (es : List Entry) → Distinct number es → LinksAhead follows es
     → Good follows (in_order es)
-sorted_good follows es d links = rw (in_order es) (record {
+sorted_good follows es d links = rw (in_order_lem es) (record {
   ordered = sorted_ordered waits number waits_urgency es d;
   apart = sorted_distinct waits number es d;
   links = λ e f m n. links e f (mem_sorted waits es e m) (mem_sorted waits es f n);

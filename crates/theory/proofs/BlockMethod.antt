@@ -46,10 +46,10 @@ placed_insert e (f ∷ es) =
     (λ h. rw (h, when, insert))
     (λ h. rw (h, when, insert) (ap (λ l. f ∷ l) (placed_insert e es)))
 
-pub in_order : (es : List Entry) → in_order es ≡ sorted waits es
+pub in_order_lem : (es : List Entry) → in_order es ≡ sorted waits es
 unfolding in_order sorted
-in_order [] = refl
-in_order (e ∷ es) = placed_insert e (in_order es) ∙ ap (insert waits e) (in_order es)
+in_order_lem [] = refl
+in_order_lem (e ∷ es) = placed_insert e (in_order es) ∙ ap (insert waits e) (in_order_lem es)
 
 pub ready_front : (x y : Entry) → waits y x ≡ true → x.ready ≤ y.ready
 unfolding ready_first
@@ -189,7 +189,7 @@ module _ (follows : ℕ → ℕ → Bool) (opens : ℕ → Bool) (end_of : ℕ �
   cut_obeys : Distinct number all → ObeysFor opens all (cut_works (cut end_of all))
   unfolding cut
   cut_obeys d =
-      rw (in_order all)
+      rw (in_order_lem all)
       (obeys_members number ready_at lasting opens urgent (sorted waits all) all
       (mem_sorted waits all) (sorted_mem waits all)
       (cut_works (cut_in_order end_of (sorted waits all)))

@@ -16,7 +16,7 @@ use Rattle.laws.proofs.Words.{by_test, sum_mem}
 use Rattle.theory.proofs.Lists.{◌∈◌, by-mem, sum_of}
 use Rattle.theory.proofs.Order.{Climbs, sorted, sorted_length, sorted_climbs}
 use Rattle.theory.proofs.OneBlock.{ready_at}
-use Rattle.theory.proofs.BlockMethod.{waits, in_order, ready_front, ready_behind}
+use Rattle.theory.proofs.BlockMethod.{waits, in_order_lem, ready_front, ready_behind}
 
 -- a list of numbers from 1 on has at most their sum of them
 length-sum : {A : Type 0} (f : A → ℕ) (L : List A) → ((a : A) → a ∈ L → 1 ≤ f a) → length L ≤ sum_of f L
@@ -92,11 +92,11 @@ module _ (end_of : ℕ → ℕ → ℕ) where
     -- their members are as many as the entries
     pub cut_members : sum_of count (cut end_of es) ≡ length es
     unfolding cut
-    cut_members = rw (in_order es) (ordered_members (sorted waits es) ∙ sorted_length waits es)
+    cut_members = rw (in_order_lem es) (ordered_members (sorted waits es) ∙ sorted_length waits es)
 
     pub cut_filled : (C : Block) → C ∈ cut end_of es → 1 ≤ count C
     unfolding cut
-    cut_filled = rw (in_order es) (ordered_filled (sorted waits es))
+    cut_filled = rw (in_order_lem es) (ordered_filled (sorted waits es))
 
     pub cut-length : length (cut end_of es) ≤ length es
     cut-length = omega (arith, length-sum count (cut end_of es) cut_filled, cut_members)
@@ -107,5 +107,5 @@ module _ (end_of : ℕ → ℕ → ℕ) where
     pub cut-rises : BlocksRise (cut end_of es)
     unfolding cut
     cut-rises =
-        rw (in_order es)
+        rw (in_order_lem es)
         (ordered_rise (sorted waits es) (sorted_climbs waits ready_at ready_front ready_behind es))

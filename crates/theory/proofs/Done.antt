@@ -40,6 +40,7 @@ module _ {E : Type 0} (num ready dur : E → ℕ) (opens : ℕ → Bool) where
   pub layers_done : (L : List E) → Distinct num L → (R t : ℕ) → ((e : E) → e ∈ L → ready e ≤ R)
       → cnt opens R + sum_of dur L ≤ cnt opens t → (e : E) → e ∈ L → did (layers L) (num e) t ≡ dur e
   unfolding Layers.layers
+  layers_done [] d R t ripe enough e m = elim m [ ]
   layers_done (x ∷ L) d R t ripe enough e m =
       by-mem m
       (λ p.

@@ -44,6 +44,7 @@ late_mono b c y z h k =
 -- the worst of a list is at least each of it, and no more than a bound of each
 worst_mem : {E : Type 0} (g : E → ℤ) (L : List E) (e : E) → e ∈ L → le_z (g e) (worst_of (map g L)) ≡ true
 unfolding worst_of
+worst_mem {E = E} g [] e m = elim m [ ]
 worst_mem g (x ∷ L) e m =
     le_le_z (g e) (greatest_z (g x) (map g L))
     (by-mem m

@@ -39,6 +39,7 @@ module _ {A : Type 0} where
     Distinct (x ∷ L) = ((a : A) → a ∈ L → num a ≡ num x → ⊥) × Distinct L
 
     pub same_number : (L : List A) → Distinct L → (a b : A) → a ∈ L → b ∈ L → num a ≡ num b → a ≡ b
+    same_number [] d a b never _ e = elim never [ ]
     same_number (x ∷ L) d a b (here p) (here q) e = p ∙ sym q
     same_number (x ∷ L) d a b (here p) (there n) e = absurd (d.0 b n (sym e ∙ ap num p))
     same_number (x ∷ L) d a b (there m) (here q) e = absurd (d.0 a m (e ∙ ap num q))
@@ -64,6 +65,7 @@ distinct_snoc num (y ∷ L) x d apart = (
 
 -- an element of a mapped list comes from one of the list
 pub map_mem : {A B : Type 0} (f : A → B) (L : List A) (y : B) → y ∈ map f L → (a : A) × (a ∈ L) × (y ≡ f a)
+map_mem {A = A} {B = B} f [] y m = elim m [ ]
 map_mem f (x ∷ L) y m =
     by-mem m
     (λ p. (x, here refl, p))

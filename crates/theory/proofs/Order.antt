@@ -56,6 +56,7 @@ module _ {E : Type 0} (sooner : E → E → Bool) where
       (λ h. rw (insert_behind x y L h) (there (insert_here x L)))
 
   insert_there : (x : E) (L : List E) (e : E) → e ∈ L → e ∈ insert x L
+  insert_there _ [] e m = elim m [ ]
   insert_there x (y ∷ L) e m =
       by_test (sooner y x)
       (λ h. rw (insert_front x y L h) (there m))
@@ -73,6 +74,7 @@ module _ {E : Type 0} (sooner : E → E → Bool) where
 
   pub sorted_mem : (L : List E) (e : E) → e ∈ L → e ∈ sorted L
   unfolding sorted
+  sorted_mem [] e m = elim m [ ]
   sorted_mem (x ∷ L) e m =
       by-mem m
       (λ p. rw p (insert_here x (sorted L)))

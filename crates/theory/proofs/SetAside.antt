@@ -73,6 +73,7 @@ cheapest_last e (y ∷ es) d =
 
 some_last : (es : List Entry) → Distinct number es → (e : Entry) → e ∈ es
     → (z : Entry) × (cheapest es ≡ some z) × Last es z
+some_last [] d e m = elim m [ ]
 some_last (x ∷ es) d e m = cheapest_last x es d
 
 by_list : {P : Type 0} (es : List Entry) → (es ≡ [] → P) → ((e : Entry) → e ∈ es → P) → P
@@ -82,6 +83,7 @@ by_list (e ∷ es) empty member = member e (here refl)
 keep_shorter : (p : Entry → Bool) (es : List Entry) (z : Entry) → z ∈ es → p z ≡ false
     → length (keep p es) < length es
 unfolding keep
+keep_shorter p [] z m h = elim m [ ]
 keep_shorter p (e ∷ es) z m h =
     by-mem m
     (λ q. rw (ap p (sym q) ∙ h, when) (omega (arith, keep-length p es)))
