@@ -29,9 +29,9 @@ pub grown_on : (A : List Run) (r : Run) (i t k : ℕ) → r.piece ≡ i → r.un
 unfolding grown goes_on_at
 grown_on A r i t k p q = grown_last A r i t k ∙ rw (eq-eqb _ i p, eq-eqb _ t q, when)
 
-pub goes_on : (r : Run) (i t : ℕ) → goes_on_at r i t ≡ true → (r.piece ≡ i) × (r.until ≡ t)
+pub goes_on_lem : (r : Run) (i t : ℕ) → goes_on_at r i t ≡ true → (r.piece ≡ i) × (r.until ≡ t)
 unfolding goes_on_at
-goes_on r i t h =
+goes_on_lem r i t h =
     let w = and_true (eqb r.piece i) (eqb r.until t) h in (eqb-true _ i w.0, eqb-true _ t w.1)
 
 pub going_on : (r : Run) (i t : ℕ) → r.piece ≡ i → r.until ≡ t → goes_on_at r i t ≡ true
@@ -69,7 +69,7 @@ grown_twice A i t j k = by_last (λ l. grown (grown l i t j) i (t + j) k ≡ gro
 
     last : (B : List Run) (r : Run) → grown (grown (B ++ (r ∷ [])) i t j) i (t + j) k ≡ grown (B ++ (r ∷ [])) i t (j + k)
     last B r = by_test (goes_on_at r i t)
-        (λ e. let w = goes_on r i t e in
+        (λ e. let w = goes_on_lem r i t e in
         let u : r.until + j + k ≡ r.until + (j + k) = omega arith in
         let v : r.slots + j + k ≡ r.slots + (j + k) = omega arith in
         rw (grown_on B r i t j w.0 w.1, grown_on B r i t (j + k) w.0 w.1)

@@ -21,7 +21,7 @@ use Rattle.laws.proofs.Order.{sooner_asym}
 use Rattle.laws.proofs.Slots.{Waits, by_choice, choice-none, worked_chosen, ready_release, ready_before, ready_intro, handed_fact, fact_handed, work_start, work_off, by_work, none_or_some, some_inj}
 use Rattle.slots.specs.Stretch.{at}
 use Rattle.slots.specs.Growth.{goes_on_at, fresh_run, longer, grown, after_turn, runs_until, last_piece, last_end, last_on}
-use Rattle.slots.proofs.Growth.{by_last, goes_on, grown_on, grown_anew}
+use Rattle.slots.proofs.Growth.{by_last, goes_on_lem, grown_on, grown_anew}
 
 pub last_piece_lem : (A : List Run) (r : Run) → last_piece (A ++ (r ∷ [])) ≡ some r.piece
 unfolding last_piece
@@ -44,7 +44,7 @@ grown_ends A i t k = by_last (λ l. (last_piece (grown l i t k) ≡ some i) × (
     more : (B : List Run) (r : Run)
         → (last_piece (grown (B ++ (r ∷ [])) i t k) ≡ some i) × (last_end (grown (B ++ (r ∷ [])) i t k) ≡ t + k)
     more B r = by_test (goes_on_at r i t)
-        (λ e. let w = goes_on r i t e in
+        (λ e. let w = goes_on_lem r i t e in
         rw (grown_on B r i t k w.0 w.1)
         (last_piece_lem B (longer r k) ∙ ap some w.0, last_end_lem B (longer r k) ∙ ap (λ x. x + k) w.1))
         (λ e. rw (grown_anew B r i t k e)

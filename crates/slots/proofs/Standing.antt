@@ -68,6 +68,7 @@ module _ (J : Job) (P : ℕ → Progress) (i : ℕ) where
 
   waits_settled : (t first : ℕ) (ls : List Link) → waits_for P i ls ≡ 0 → ready_by J P i first ls ≤ t → Settled J P i t ls
   unfolding waits_for ready_by
+  waits_settled t first [] w r k never e = elim never [ ]
   waits_settled t first (l ∷ ls) w r k (here q) e =
       rw q (link_settled t l (rw q at e) (omega arith) (omega arith))
   waits_settled t first (l ∷ ls) w r k (there m) e = waits_settled t first ls (omega arith) (omega arith) k m e

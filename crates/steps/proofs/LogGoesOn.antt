@@ -17,7 +17,7 @@ use Rattle.rules.specs.Urgency.{worked}
 use Rattle.laws.proofs.Words.{by_test}
 use Rattle.slots.specs.Growth.{goes_on_at, longer, grown, runs_until}
 use Rattle.slots.specs.Stretch.{at, Stretch}
-use Rattle.slots.proofs.Growth.{grown_on, goes_on}
+use Rattle.slots.proofs.Growth.{grown_on, goes_on_lem}
 use Rattle.steps.specs.Log.{Log, stays, lengthened, run_at, logged_runs}
 use Rattle.steps.proofs.LogHeld.{Placed, logged, LastRun, LogHeld, worked-runs}
 use Rattle.steps.proofs.LogLists.{own_run, last_logged, logged_same}
@@ -70,7 +70,7 @@ module _ (J : Job) (sound : Sound J) (n : ℕ) (desks : List ℕ) (t u k : ℕ) 
     room = omega (arith, w.below, h.few, scores_most J n (moment_of t u M), h.until_sized)
 
     ended : get_or l.until place 0 ≡ t
-    ended = (goes_on run i t on).1
+    ended = (goes_on_lem run i t on).1
 
     -- It is the run that the plan has, k slots longer.
     run_longer : run_at l.piece l.from now.until place ≡ longer run k
@@ -95,7 +95,7 @@ module _ (J : Job) (sound : Sound J) (n : ℕ) (desks : List ℕ) (t u k : ℕ) 
     own_runs =
         last_logged desks l.piece l.from now.until d l.runs place w.below w.own w.latest
         ∙ rw (before_logged desks l t u place d, run_longer)
-        (sym (grown_on before run i t k (goes_on run i t on).0 ended)
+        (sym (grown_on before run i t k (goes_on_lem run i t on).0 ended)
         ∙ ap (λ rs. grown rs i t k) was ∙ sym (worked-runs J sound n desks t u k e p s count small desk_is d i q))
 
     other_runs : (f : ℕ) → (f ≡ d → ⊥) → logged desks now f ≡ logged desks l f
