@@ -99,6 +99,7 @@ module _ (keys : List ℕ) (i : ℕ) where
   -- They are below n, and have that key; and all such are among them.
   pub places_key : (n k : ℕ) → Mem k (places_with keys i n) → (k < n) × (get_or keys k 0 ≡ i)
   unfolding places_with when
+  places_key zero k m = elim m [ ]
   places_key (suc n) k m = go (eqb (get_or keys n 0) i) refl m (λ o. places_key n k o)
     where
       under : (k < n) × (get_or keys k 0 ≡ i) → (k < suc n) × (get_or keys k 0 ≡ i)

@@ -1,5 +1,7 @@
 // Links as plain tables of numbers, of no job file: the links from one piece chained together, and the ring check with the
 // order that it finds.
+#![tactic(auto)]
+
 pub mod chains;
 pub mod delay;
 pub mod queue;

@@ -1,0 +1,23 @@
+-- `pass_one` meets its contract: the piece waits for nothing, waits on for others, or waited for this link last.
+use native.Mathlib.Numerals.{add-one}
+use native.Mathlib.Omega.{arith}
+use Rattle.links.proofs.QueueLaws.{passed_idle, passed-waiting, passed_last, room_for_one}
+use Rattle.links.proofs.queue.pass_one.Goals as goal
+
+pub returns-then-w-eq0 : goal.returns-then-w-eq0
+returns-then-w-eq0 c = λ n few one Q. passed_idle n _ _ _ _ Q c.if-w-eq0.true
+
+pub offset_bounds-order-placed : goal.offset_bounds-order-placed
+offset_bounds-order-placed c = omega (arith, room_for_one _ _ _ _ c.requires c.if-w-eq1.true)
+
+pub bounds-order-placed : goal.bounds-order-placed
+bounds-order-placed c = room_for_one _ _ _ _ c.requires c.if-w-eq1.true
+
+pub overflow_add-result : goal.overflow_add-result
+overflow_add-result c = omega (arith, room_for_one _ _ _ _ c.requires c.if-w-eq1.true)
+
+pub returns-then-w-eq1 : goal.returns-then-w-eq1
+returns-then-w-eq1 c = λ n few one Q. rw add-one (passed_last n _ _ _ _ Q one few c.if-w-eq1.true)
+
+pub returns : goal.returns
+returns c = λ n few one Q. passed-waiting n _ _ _ _ Q one few (omega arith)
