@@ -1,7 +1,7 @@
 -- The pieces and links that the tables hold, law by law: how many they are, that entries behind the counts are no part
 -- of them, and what one entry more adds.
 use Prim.Native.Nat.{ℕ, ◌+◌, ◌≤◌, ◌<◌}
-use mathlib.Core.List.{List, [], ◌∷◌, ◌++◌, map, map_append}
+use mathlib.Core.List.{List, [], ◌∷◌, ◌++◌, map, map-append}
 use mathlib.Core.Path.{◌≡◌, ap, ap₂, ◌∙◌}
 use native.Mathlib.Numerals.{add-one}
 use native.Mathlib.Omega.{arith}
@@ -23,7 +23,7 @@ module _ {A : Type 0} where
   made_same f g n h = map_same f g (below n) (λ i m. h i (mem_below n i m))
 
   made_more : (f : ℕ → A) (n : ℕ) → map f (below (n + 1)) ≡ map f (below n) ++ (f n ∷ [])
-  made_more f n = rw add-one (ap (map f) (below_more n) ∙ map_append f (below n) (n ∷ []))
+  made_more f n = rw add-one (ap (map f) (below_more n) ∙ map-append f (below n) (n ∷ []))
 
 pub pieces_length : (n : ℕ) (desks durations releases dues : List ℕ) →
     length (pieces_in n desks durations releases dues) ≡ n

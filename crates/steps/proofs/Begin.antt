@@ -1,7 +1,7 @@
 -- The tables before the first slot hold the plan at moment 0.
 use Prim.Native.Nat.{ℕ, zero, suc, ◌+◌, ◌<◌}
 use mathlib.Core.Bool.{false}
-use mathlib.Core.List.{List, [], ◌∷◌, ◌++◌, map, map_append, Memᴰ as Mem}
+use mathlib.Core.List.{List, [], ◌∷◌, ◌++◌, map, map-append, Memᴰ as Mem}
 use mathlib.Core.Logic.{inl}
 use mathlib.Core.Path.{◌≡◌, refl, sym, ap, ◌∙◌}
 use native.Mathlib.Omega.{arith}
@@ -42,7 +42,7 @@ into_links befores afters handovers i (suc m) =
     let f : ℕ → Link = link_in befores afters handovers in
     let ih : links_to m afters i ≡ links_at i (map f (below m)) = into_links befores afters handovers i m in
     let e : links_at i (map f (below (suc m))) ≡ links_at i (map f (below m)) + when (eqb (get_or afters m 0) i) 1 0 =
-    ap (links_at i) (ap (map f) (below_more m) ∙ map_append f (below m) (m ∷ [])) ∙ at_more i (map f (below m)) (f m) in
+    ap (links_at i) (ap (map f) (below_more m) ∙ map-append f (below m) (m ∷ [])) ∙ at_more i (map f (below m)) (f m) in
     omega arith
 
 module _ (J : Job) (sound : Sound J) (n : ℕ) (count : piece_count J ≡ n) where

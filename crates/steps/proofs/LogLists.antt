@@ -1,7 +1,7 @@
 -- The runs of a desk out of the log: what a run that begins and a run that goes on make of them.
 use Prim.Native.Nat.{ℕ, zero, suc, ◌<◌}
 use mathlib.Core.Bool.{Bool, true, false}
-use mathlib.Core.List.{List, [], ◌∷◌, ◌++◌, map, map_append, append-nil}
+use mathlib.Core.List.{List, [], ◌∷◌, ◌++◌, map, map-append, append-nil}
 use mathlib.Core.Path.{◌≡◌, refl, sym, ◌∙◌}
 use native.Mathlib.Omega.{arith}
 use borrow.Author.Tests.{eqb-true, eqb-false}
@@ -42,14 +42,14 @@ module _ (desks piece from until : List ℕ) (d : ℕ) where
   unfolding logged_runs keep
   own_more c e =
       rw (below_more c, keep_append own (below c) (c ∷ []))
-      (map_append run (keep own (below c)) (keep own (c ∷ [])) ∙ rw (e, when))
+      (map-append run (keep own (below c)) (keep own (c ∷ [])) ∙ rw (e, when))
 
   pub other_more : (c : ℕ) → own c ≡ false
       → logged_runs desks piece from until (suc c) d ≡ logged_runs desks piece from until c d
   unfolding logged_runs keep
   other_more c e =
       rw (below_more c, keep_append own (below c) (c ∷ []))
-      (map_append run (keep own (below c)) (keep own (c ∷ [])) ∙ rw (e, when)
+      (map-append run (keep own (below c)) (keep own (c ∷ [])) ∙ rw (e, when)
       (append-nil (map run (keep own (below c)))))
 
   -- The desk's last run stands at place k.

@@ -2,7 +2,7 @@
 -- and is ready no sooner than they ask.
 use Prim.Native.Nat.{ℕ, zero, suc, ◌+◌, ◌-◌, ◌≤◌, ◌<◌, max}
 use mathlib.Core.Bool.{◌&&◌}
-use mathlib.Core.List.{List, ◌∷◌, ◌++◌, map, map_append, []}
+use mathlib.Core.List.{List, ◌∷◌, ◌++◌, map, map-append, []}
 use mathlib.Core.Path.{◌≡◌, refl, sym, ap, ◌∙◌}
 use native.Mathlib.Omega.{arith}
 use borrow.Author.Tests.{eqb-true, eqb-false}
@@ -114,7 +114,7 @@ module _ (J : Job) (sound : Sound J) (n m : ℕ) (l : Ties) (count : piece_count
         (λ e. rw e (omega arith))
 
     links_more : (k : ℕ) → map link (below (suc k)) ≡ map link (below k) ++ (link k ∷ [])
-    links_more k = ap (map link) (below_more k) ∙ map_append link (below k) (k ∷ [])
+    links_more k = ap (map link) (below_more k) ∙ map-append link (below k) (k ∷ [])
 
     pub pass_sized : (k : ℕ) (s : Waiting)
         → (length (pass_from l p c k s).waits ≡ length s.waits) ×
