@@ -22,6 +22,7 @@ module _ (f : ℕ → ℤ) where
 
   pub left_each : (z : ℤ) (ks : List ℕ) (k : ℕ) → Mem k ks → least_left f z ks ≼ f k
   unfolding least_left
+  left_each z [] k never = elim never [ ]
   left_each z (j ∷ ks) k (here e) = rw e (omega (arith, left_start (lesser_z z (f j)) ks, lesser_right z (f j)))
   left_each z (j ∷ ks) k (there m) = left_each (lesser_z z (f j)) ks k m
 

@@ -1,5 +1,7 @@
 // Latest moments of all pieces, as signed numbers: from the last pieces back, in the order that the ring check found.
 // When a piece has its turn, the moments of all pieces after it are known, so each link is looked at once.
+#![tactic(auto)]
+
 ghost use Rattle.std.specs.Prelude.{◌<◌, ◌≤◌, ◌≡◌, pos, ◌-ℤ◌, get_or};
 ghost use Rattle.std.specs.Int.{w32};
 ghost use Rattle.std.proofs.Common.{SFits};
