@@ -1,7 +1,7 @@
 -- The ends of the pieces that are worked on, one desk more; and the whole decision out of its parts.
 use Prim.Native.Nat.{ℕ, ◌+◌, ◌<◌, min}
 use mathlib.Core.List.{List}
-use mathlib.Core.Path.{◌≡◌, sym, ap, ◌∙◌}
+use mathlib.Core.Path.{◌≡◌, sym, ◌∙◌}
 use native.Mathlib.Numerals.{add-one}
 use lib.ListN.{length, get_or}
 use Rattle.steps.specs.Choice.{View, whom, end_next, Decided}

@@ -9,7 +9,7 @@ use lib.Dec.{ltb, eqb}
 use lib.ListN.{length, get_or, set}
 use Rattle.rules.specs.Words.{when}
 use Rattle.laws.proofs.Words.{by_test, when_true, when_false}
-use Rattle.steps.specs.Choice.{View, never, Asks, Best, Later, Busy}
+use Rattle.steps.specs.Choice.{View, never, Asks, Best, Busy}
 use Rattle.steps.specs.Keys.{no_key}
 use Rattle.steps.specs.Opening.{Among}
 use Rattle.deciding.specs.Look.{Least, Looked, Picks, picks, offered}

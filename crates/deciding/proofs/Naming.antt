@@ -1,5 +1,5 @@
 -- The pieces of the desks that work, named by the last eight bits of their keys: what was found in keys is found in pieces.
-use Prim.Native.Nat.{ℕ, zero, suc, ◌+◌, ◌%◌, ◌≤◌, ◌<◌}
+use Prim.Native.Nat.{ℕ, zero, suc, ◌+◌, ◌≤◌, ◌<◌}
 use mathlib.Core.List.{List}
 use mathlib.Core.Logic.{inl, inr}
 use mathlib.Core.Path.{◌≡◌, refl, sym, ap, ◌∙◌}
@@ -13,7 +13,6 @@ use Rattle.laws.proofs.Words.{by_test}
 use Rattle.links.proofs.Counting.{counted_same}
 use Rattle.steps.specs.Choice.{View, Choice, Busy, LookedAt}
 use Rattle.steps.specs.Keys.{no_key}
-use Rattle.steps.specs.Opening.{Among}
 use Rattle.deciding.specs.Look.{Least, Looked, piece_of, named}
 
 -- One desk more.

@@ -1,6 +1,8 @@
 // One decision of the plan over lent tables: who every desk works on from a moment on, and until when nothing is decided
 // anew. It looks at the open pieces alone, those in the first places of `table`, and keeps the least key that asks for each
 // desk. 256 stands for no piece, and 4,294,967,295 for no later moment.
+#![tactic(auto)]
+
 ghost use Rattle.std.specs.Prelude.{List, ◌≡◌, ℕ, ◌<◌, ◌≤◌, length, get_or};
 ghost use Rattle.steps.specs.Choice.{view, whom, Busy, end_next, Decided};
 ghost use Rattle.steps.specs.Keys.{no_key};
