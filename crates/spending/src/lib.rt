@@ -1,5 +1,7 @@
 // From one decision moment to the next: every desk that works does so on its piece, its run is noted, and what is finished
 // is handed over. One loop over the desks, since how many work cannot be foretold, and each loop's end costs.
+#![tactic(auto)]
+
 ghost use Rattle.std.specs.Prelude.{Bool, ◌≡◌, ℕ, ◌<◌, ◌≤◌, get_or};
 ghost use Rattle.links.specs.Chains.{Chained};
 ghost use Rattle.steps.specs.Choice.{Busy};
