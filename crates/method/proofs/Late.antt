@@ -32,11 +32,13 @@ use Rattle.method.proofs.OfDesk.{works_own, works_each}
 -- The worst of a list of signed numbers.
 worst_mem : (l : List ℤ) (z : ℤ) → Mem z l → z ≼ worst_of l
 unfolding worst_of
+worst_mem [] z never = elim never [ ]
 worst_mem (x ∷ xs) z (here e) = rw e (greatest_z_start x xs)
 worst_mem (x ∷ xs) z (there m) = greatest_z_mem x xs z m
 
 worst_least : (l : List ℤ) (z c : ℤ) → Mem z l → ((x : ℤ) → Mem x l → x ≼ c) → worst_of l ≼ c
 unfolding worst_of
+worst_least [] z c m h = elim m [ ]
 worst_least (x ∷ xs) z c m h = greatest_z_least x c xs (h x (here refl)) (λ y n. h y (there n))
 
 -- Two lists have the same worst where each number of the one is at most one of the other.

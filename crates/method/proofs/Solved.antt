@@ -212,6 +212,7 @@ unfolding cut
 cut_same follows end_of es g = ap (cut_in_order end_of) (in_order_same es g.ordered)
 
 filled_some : (es : List Entry) (e : Entry) → e ∈ es → 1 ≤ length es
+filled_some [] e m = elim m [ ]
 filled_some (x ∷ xs) e m = omega arith
 
 module _ (follows : ℕ → ℕ → Bool) (opens : ℕ → Bool) (end_of : ℕ → ℕ → ℕ) (H : Hours opens end_of) where
