@@ -1,5 +1,7 @@
 // The steps of the block method on tables of numbers: slots given away on the board, the first block of a set, and who
 // is set aside of a block.
+#![tactic(auto)]
+
 pub mod aside;
 pub mod board;
 pub mod gather;

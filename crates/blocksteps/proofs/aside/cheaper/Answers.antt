@@ -1,0 +1,33 @@
+-- `cheaper` meets its contract, way by way.
+use lib.IntN.{pos}
+use lib.ListN.{get_or}
+use mir.Syntax.{w32}
+use mir.Val.{SFits}
+use mathlib.Core.Path.{◌∙◌}
+use Rattle.blocksteps.proofs.Chosen.{less_read, no_best, best_stays, new_best}
+use Rattle.blocksteps.proofs.aside.cheaper.Goals as goal
+
+pub returns-then-best-eq-NOBODY : goal.returns-then-best-eq-NOBODY
+returns-then-best-eq-NOBODY c = no_best _ _ _ c.requires.id_bound c.if-best-eq-NOBODY.true
+
+pub returns-then-costs_less : goal.returns-then-costs_less
+returns-then-costs_less c = let a = c.args in
+    let fa : SFits w32 (get_or a.latests.now a.best (pos 0)) =
+    record { sfits = c.costs_less-arg-1.given } in
+    let fb : SFits w32 (get_or a.latests.now a.id (pos 0)) =
+    record { sfits = c.costs_less-arg-2-1.given } in
+    best_stays a.latests.now a.best a.id c.requires.id_bound
+    (c.requires.best_bound c.if-best-eq-NOBODY.false)
+    (less_read (get_or a.latests.now a.best (pos 0)) (get_or a.latests.now a.id (pos 0)) a.best a.id
+    c.costs_less.result fa fb c.costs_less.ensures ∙ c.if-costs_less.true)
+
+pub returns : goal.returns
+returns c = let a = c.args in
+    let fa : SFits w32 (get_or a.latests.now a.best (pos 0)) =
+    record { sfits = c.costs_less-arg-1.given } in
+    let fb : SFits w32 (get_or a.latests.now a.id (pos 0)) =
+    record { sfits = c.costs_less-arg-2-1.given } in
+    new_best a.latests.now a.best a.id c.requires.id_bound
+    (c.requires.best_bound c.if-best-eq-NOBODY.false)
+    (less_read (get_or a.latests.now a.best (pos 0)) (get_or a.latests.now a.id (pos 0)) a.best a.id
+    c.costs_less.result fa fb c.costs_less.ensures ∙ c.if-costs_less.false)
