@@ -1,4 +1,5 @@
 -- `cheaper` meets its contract, way by way.
+use Rattle.std.proofs.Common.{rules}
 use lib.IntN.{pos}
 use lib.ListN.{get_or}
 use mir.Syntax.{w32}
@@ -13,9 +14,9 @@ returns-then-best-eq-NOBODY c = no_best _ _ _ c.requires.id_bound c.if-best-eq-N
 pub returns-then-costs_less : goal.returns-then-costs_less
 returns-then-costs_less c = let a = c.args in
     let fa : SFits w32 (get_or a.latests.now a.best (pos 0)) =
-    record { sfits = c.costs_less-arg-1.given } in
+    record { sfits = search rules } in
     let fb : SFits w32 (get_or a.latests.now a.id (pos 0)) =
-    record { sfits = c.costs_less-arg-2-1.given } in
+    record { sfits = search rules } in
     best_stays a.latests.now a.best a.id c.requires.id_bound
     (c.requires.best_bound c.if-best-eq-NOBODY.false)
     (less_read (get_or a.latests.now a.best (pos 0)) (get_or a.latests.now a.id (pos 0)) a.best a.id
@@ -24,9 +25,9 @@ returns-then-costs_less c = let a = c.args in
 pub returns : goal.returns
 returns c = let a = c.args in
     let fa : SFits w32 (get_or a.latests.now a.best (pos 0)) =
-    record { sfits = c.costs_less-arg-1.given } in
+    record { sfits = search rules } in
     let fb : SFits w32 (get_or a.latests.now a.id (pos 0)) =
-    record { sfits = c.costs_less-arg-2-1.given } in
+    record { sfits = search rules } in
     new_best a.latests.now a.best a.id c.requires.id_bound
     (c.requires.best_bound c.if-best-eq-NOBODY.false)
     (less_read (get_or a.latests.now a.best (pos 0)) (get_or a.latests.now a.id (pos 0)) a.best a.id

@@ -1,6 +1,6 @@
 -- `cheapest` meets its contract: the best of the pieces from place k on is known, and from place 0 on it is the best of
 -- all.
-use Prim.Native.Nat.{ℕ, ◌-◌, ◌≤◌, ◌<◌}
+use Prim.Native.Nat.{ℕ, ◌≤◌, ◌<◌}
 use mathlib.Core.Bool.{Bool}
 use mathlib.Core.List.{List}
 use mathlib.Core.Path.{◌≡◌}

@@ -1,6 +1,5 @@
 -- `mark_led` meets its contract: after k links the marks tell who is led by one of them into the list.
 use lib.ListN.{length-set}
-use Prim.Native.Nat.{◌-◌}
 use mathlib.Core.Path.{◌≡◌, ap, ◌∙◌}
 use native.Mathlib.Omega.{arith}
 use lib.ListN.{length}

@@ -1,5 +1,4 @@
 -- `mark_members` meets its contract: the first k of the list are marked, and no other.
-use Prim.Native.Nat.{◌-◌}
 use native.Mathlib.Omega.{arith}
 use Rattle.blocksteps.proofs.Marked.{members_none, members_more}
 use Rattle.blocksteps.proofs.aside.mark_members.Goals as goal

@@ -1,5 +1,4 @@
 -- `without` meets its contract: of the first k those that are not the piece stand in front.
-use Prim.Native.Nat.{◌-◌}
 use native.Mathlib.Omega.{arith}
 use Rattle.blocksteps.proofs.Chosen.{keeping_none, keeping_skip, keeping_more}
 use Rattle.blocksteps.proofs.aside.without.Goals as goal

@@ -1,5 +1,4 @@
 -- `gather_block` meets its contract: what is left to gather gives the blocks of the whole set, and no sum wraps.
-use Prim.Native.Nat.{◌-◌}
 use native.Mathlib.Omega.{arith}
 use Rattle.blocksteps.specs.Listed.{entry_in}
 use Rattle.blocksteps.proofs.Gathering.{gathering_one, gathering_more, gathering_stop, gathering_end}
