@@ -178,6 +178,7 @@ some_aside follows f B b x e = rw (e, solved)
 
 keep_fewer : (p : ℕ → Bool) (l : List ℕ) (x : ℕ) → Mem x l → p x ≡ false → length (keep p l) < length l
 unfolding keep
+keep_fewer p [] _ never h = elim never [ ]
 keep_fewer p (y ∷ l) x (here e) h =
     let k : p y ≡ false = ap p (sym e) ∙ h in rw (k, when) (omega (arith, keep-length p l))
 keep_fewer p (y ∷ l) x (there m) h =
