@@ -1,7 +1,7 @@
 -- The block sheet of one desk in tables: what it is made of, and what it holds.
-use Rattle.std.specs.Prelude.{ℕ, ◌*◌, ◌≤◌, ◌<◌, List, map, ◌≡◌, ℤ, pos, length, get_or}
+use Rattle.std.specs.Prelude.{ℕ, ◌<◌, List, ◌≡◌, ℤ, pos, get_or}
 use Rattle.std.proofs.Math.Option.{none}
-use Rattle.rules.specs.Job.{Job, piece_count, desk, duration, desk_pieces}
+use Rattle.rules.specs.Job.{Job, piece_count, desk, duration}
 use Rattle.rules.specs.Moments.{latest}
 use Rattle.rules.specs.Rings.{linked, ring_piece}
 use Rattle.rules.specs.Tables.{Sound}
