@@ -1,5 +1,7 @@
 // A block sheet in its tables answered: its records of blocks and of runs in the lent buffer, and its figures; before that
 // 13 for a desk above 31 and 12 for a buffer that is too short.
+#![tactic(auto)]
+
 ghost use Rattle.std.specs.Prelude.{List, ◌≡◌, ℕ, ◌≤◌, length};
 ghost use Rattle.demands.specs.Promises.{BlockPromise};
 ghost use Rattle.sheet_answer.specs.Refused.{refused_sheet, sheet_fault};
