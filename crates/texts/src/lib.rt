@@ -1,5 +1,7 @@
 // Words and numbers of a line, each put at a place of the lent text; the place behind it is handed back. A caller keeps
 // room for the longest: a number has at most twenty digits and a sign.
+#![tactic(auto)]
+
 ghost use Rattle.std.specs.Prelude.{◌+◌, ◌≤◌, ◌<◌, length};
 ghost use Rattle.rules.specs.Listing.{digits_within, digits, signed_digits};
 ghost use Rattle.texts.specs.Puts.{Puts};
