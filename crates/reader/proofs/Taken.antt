@@ -1,7 +1,7 @@
 -- What the loop of the reading keeps, turn by turn: the rest from here is the whole, the tables hold what was read, and
 -- they have room for a record that is read. What ends the loop is the outcome of the whole file.
 use Prim.Native.Nat.{ℕ, ◌+◌, ◌≤◌, ◌<◌}
-use mathlib.Core.List.{List, []}
+use mathlib.Core.List.{List}
 use mathlib.Core.Path.{◌≡◌, refl, sym, ap, ap₂, ◌∙◌}
 use native.Mathlib.Omega.{arith}
 use lib.ListN.{length, set, length-set}
@@ -12,6 +12,7 @@ use Rattle.rules.specs.declared.Piece.{Piece}
 use Rattle.rules.specs.declared.Link.{Link}
 use Rattle.rules.specs.declared.Item.{Item}
 use Rattle.rules.specs.declared.Item.TheVariants.{Work, Tie, Stop, Done}
+use Rattle.judge.specs.Says.{Says}
 use Rattle.laws.proofs.Reading.{item_work, item_tie}
 use Rattle.reader.specs.Entries.{PieceEntered, LinkEntered}
 use Rattle.reader.specs.Outcome.{end_of, ReadsJob}
@@ -54,6 +55,10 @@ module _ {s : List ℕ} {n m : ℕ} {desks durations releases dues befores after
   pub link_count : length J.links ≡ m
   unfolding job_in
   link_count = links_length m befores afters handovers
+
+  -- What the reader of one record told of the file's next record, with so many pieces and links read before it.
+  pub told : (i : Item) → Says n m i (item_at s (n + m)) → item_at s (n + m) J ≡ i
+  told i says = sym (says J piece_count_lem link_count)
 
   module _ (p : Piece) (read : item_at s (n + m) J ≡ Work p) where
     pub piece_room : n < 256

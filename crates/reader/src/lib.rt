@@ -1,6 +1,8 @@
 // A whole job file read into lent tables, or the first refusal met: one record at a time, each into the tables of its
 // kind, until a refusal or the end of the file. The reader of one record is asked at one place only, so that whatever
 // it judges is compiled into the loop.
+#![tactic(auto)]
+
 ghost use Rattle.std.specs.Prelude.{◌<◌, ◌≡◌};
 ghost use Rattle.reader.specs.Sizes.{PieceTables, LinkTables};
 ghost use Rattle.reader.specs.Entries.{PieceEntered, LinkEntered};
