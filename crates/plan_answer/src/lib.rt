@@ -1,5 +1,7 @@
 // A finished plan answered: its result and run records in the lent buffer, and its figures; 12 where the buffer is too
 // short. Nothing is written before that is judged.
+#![tactic(auto)]
+
 ghost use Rattle.std.specs.Prelude.{List, ◌≡◌, ℕ, ◌*◌, ◌≤◌, length};
 ghost use Rattle.demands.specs.Promises.{PlanPromise};
 ghost use Rattle.finished.specs.Finished.{PlannedFile};

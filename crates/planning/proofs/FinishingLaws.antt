@@ -7,7 +7,7 @@ use mathlib.Core.Path.{◌≡◌, ap, ◌∙◌}
 use native.Mathlib.Omega.{arith}
 use lib.IntN.{ℤ}
 use lib.ListN.{length}
-use Rattle.rules.specs.Job.{Job, refused, accepted}
+use Rattle.rules.specs.Job.{refused, accepted}
 use Rattle.rules.specs.Judgement.{file_outcome}
 use Rattle.rules.specs.declared.Refusal.{Refusal}
 use Rattle.rules.specs.Rings.{ring_piece}

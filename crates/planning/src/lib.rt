@@ -1,4 +1,6 @@
 // From a job file to its finished plan in lent tables, or its refusal: the file judged, the plan finished, and both in one.
+#![tactic(auto)]
+
 pub mod file;
 pub mod finishing;
 pub mod judged;
