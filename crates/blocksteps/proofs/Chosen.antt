@@ -44,11 +44,12 @@ unfolding whom
 whom_nobody i e = when_true (eqb i 65535) none (some i) (eq-eqb i 65535 e)
 
 -- What a comparison says that read its numbers back from their bits.
-pub less_read : (la lb : ℤ) (a b : ℕ) (r : Bool) → SFits w32 la → SFits w32 lb
+pub less_read : (la lb : ℤ) (a b : ℕ) (r : Bool)
     → r ≡ (lt_z (to_z w32 (of_z w32 lb)) (to_z w32 (of_z w32 la)) ||
     (le_z (to_z w32 (of_z w32 lb)) (to_z w32 (of_z w32 la)) && ltb b a))
+    → SFits w32 la → SFits w32 lb
     → (lt_z lb la || (le_z lb la && ltb b a)) ≡ r
-less_read la lb a b r fa fb e = sym (rw (to_z-of_z fa, to_z-of_z fb) at e)
+less_read la lb a b r e fa fb = sym (rw (to_z-of_z fa, to_z-of_z fb) at e)
 
 -- The cheaper of two.
 module _ (latests : List ℤ) (best i : ℕ) (small : i < 256) where

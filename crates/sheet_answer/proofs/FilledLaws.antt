@@ -25,15 +25,15 @@ module _ {J : Job} {d : ℕ} {counts starts ends pieces froms untils : List ℕ}
   runs_few = omega (arith, sheet.few_runs, desk_few J d)
 
   -- The records have room where 48 bytes for each piece are lent, and the runs have it after the blocks.
-  pub room_after : (buffer : List ℕ) {mid : List ℕ} → 48 * piece_count J ≤ length buffer
-      → mid ≡ sets buffer 0 (records_in 19 d counts starts ends rows) → 16 * rows + 16 * runs ≤ length mid
-  room_after buffer room put =
+  pub room_after : (kind : ℕ) (buffer : List ℕ) {mid : List ℕ} → 48 * piece_count J ≤ length buffer
+      → mid ≡ sets buffer 0 (records_in kind d counts starts ends rows) → 16 * rows + 16 * runs ≤ length mid
+  room_after kind buffer room put =
       omega (
         arith,
         rows_few,
         runs_few,
         ap length put,
-        length-sets buffer 0 (records_in 19 d counts starts ends rows),
+        length-sets buffer 0 (records_in kind d counts starts ends rows),
       )
 
   rows_are : rows ≡ length (blocks J d)

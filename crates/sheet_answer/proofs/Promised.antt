@@ -87,7 +87,7 @@ module _ {file : List ℕ} {d : ℕ} {counts starts ends pieces froms untils : L
         (16 * rows) p q (sym (records_length 19 d counts starts ends rows))
         (omega (
           arith,
-          room_after F.sheet buffer F.enough p,
+          room_after F.sheet 19 buffer F.enough p,
           ap length p,
           length-sets buffer 0 (records_in 19 d counts starts ends rows),
           records_length 19 d counts starts ends rows,

@@ -24,18 +24,18 @@ put_rows-requires-2 c =
     let F = c.requires.1 in
     let few = runs_few F.sheet in record {
       count_in_bounds = (omega (arith, few, F.few), omega (arith, few, F.few), omega (arith, few, F.few));
-      count_in_bounds_2 = room_after F.sheet c.args.buffer.now F.enough c.put_rows.ensures;
+      count_in_bounds_2 = room_after F.sheet _ c.args.buffer.now F.enough c.put_rows.ensures;
     }
 
 pub overflow_cast-result : goal.overflow_cast-result
 overflow_cast-result c =
     let F = c.requires.1 in
-    omega (arith, rows_few F.sheet, F.few)
+    omega (arith, rows_few F.sheet, runs_few F.sheet, F.few)
 
 pub overflow_cast-result-2 : goal.overflow_cast-result-2
 overflow_cast-result-2 c =
     let F = c.requires.1 in
-    omega (arith, runs_few F.sheet, F.few)
+    omega (arith, rows_few F.sheet, runs_few F.sheet, F.few)
 
 pub returns : goal.returns
 returns c file F =

@@ -2,8 +2,6 @@
 use Rattle.std.proofs.Common.{rules}
 use lib.IntN.{pos}
 use lib.ListN.{get_or}
-use mir.Syntax.{w32}
-use mir.Val.{SFits}
 use mathlib.Core.Path.{◌∙◌}
 use Rattle.blocksteps.proofs.Chosen.{less_read, no_best, best_stays, new_best}
 use Rattle.blocksteps.proofs.aside.cheaper.Goals as goal
@@ -13,22 +11,16 @@ returns-then-best-eq-NOBODY c = no_best _ _ _ c.requires.id_bound c.if-best-eq-N
 
 pub returns-then-costs_less : goal.returns-then-costs_less
 returns-then-costs_less c = let a = c.args in
-    let fa : SFits w32 (get_or a.latests.now a.best (pos 0)) =
-    record { sfits = search rules } in
-    let fb : SFits w32 (get_or a.latests.now a.id (pos 0)) =
-    record { sfits = search rules } in
     best_stays a.latests.now a.best a.id c.requires.id_bound
     (c.requires.best_bound c.if-best-eq-NOBODY.false)
     (less_read (get_or a.latests.now a.best (pos 0)) (get_or a.latests.now a.id (pos 0)) a.best a.id
-    c.costs_less.result fa fb c.costs_less.ensures ∙ c.if-costs_less.true)
+    c.costs_less.result c.costs_less.ensures (record { sfits = search rules }) (record { sfits = search rules })
+    ∙ c.if-costs_less.true)
 
 pub returns : goal.returns
 returns c = let a = c.args in
-    let fa : SFits w32 (get_or a.latests.now a.best (pos 0)) =
-    record { sfits = search rules } in
-    let fb : SFits w32 (get_or a.latests.now a.id (pos 0)) =
-    record { sfits = search rules } in
     new_best a.latests.now a.best a.id c.requires.id_bound
     (c.requires.best_bound c.if-best-eq-NOBODY.false)
     (less_read (get_or a.latests.now a.best (pos 0)) (get_or a.latests.now a.id (pos 0)) a.best a.id
-    c.costs_less.result fa fb c.costs_less.ensures ∙ c.if-costs_less.false)
+    c.costs_less.result c.costs_less.ensures (record { sfits = search rules }) (record { sfits = search rules })
+    ∙ c.if-costs_less.false)
