@@ -1,4 +1,6 @@
 // The lines of a listing, field by field. A field has at most 35 bytes: its word at most 14, its number at most 21.
+#![tactic(auto)]
+
 ghost use Rattle.std.specs.Prelude.{◌++◌, ◌+◌, ◌≤◌, length};
 ghost use Rattle.rules.specs.Listing.{digits, signed_digits};
 ghost use Rattle.output.specs.Late.{Bounded};
