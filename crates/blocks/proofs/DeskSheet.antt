@@ -181,9 +181,9 @@ module _ (J : Job) (n m : ℕ) (desks durations befores afters ready : List ℕ)
           (cut_in_order (open_end J d) (in_order (entries J d))) []
 
       -- The links of the tables are the job's where both pieces are the desk's.
-      on_desk_lem : (x : Entry) → Mem x (in_order (entries J d)) → (x.number < n) × (desk J x.number ≡ d)
+      at_desk : (x : Entry) → Mem x (in_order (entries J d)) → (x.number < n) × (desk J x.number ≡ d)
       unfolding entries entry
-      on_desk_lem x k =
+      at_desk x k =
           let w = mem_of_map (entry J) (desk_pieces J d) x
           (mem_sorted waits (entries J d) x (subst (λ (l : List Entry). Mem x l) (in_order_lem (entries J d)) k)) in
           let own = mem_desk_pieces J d w.0 w.1 in
@@ -191,8 +191,8 @@ module _ (J : Job) (n m : ℕ) (desks durations befores afters ready : List ℕ)
 
       same_links : Agree (tied_in m befores afters) (linked J) (in_order (entries J d))
       same_links x y k l =
-          let p = on_desk_lem x k in
-          let q = on_desk_lem y l in
+          let p = at_desk x k in
+          let q = at_desk y l in
           e.tied x.number y.number p.0 q.0 p.1 q.1
 
       board_is : board_in k pieces froms untils ≡ laid

@@ -103,7 +103,7 @@ module _ (J : Job) (sound : Sound J) (free : ring_piece J ≡ none) (d : ℕ) wh
     where
       chosen_here : (t i : ℕ) → worked J d t ≡ some i → Mem i (desk_pieces J d)
       chosen_here t i e =
-          let c = (worked_chosen J d t i e).waits in desk_pieces_mem J d i c.inside c.on_desk_lem
+          let c = (worked_chosen J d t i e).waits in desk_pieces_mem J d i c.inside c.at_desk
 
       lin : (t i : ℕ) → worked J d t ≡ some i
           → Lin itself (ready J) (raised J) (duration J) (is_open J d) (open_end J d) (sooner J) (linked J) (desk_pieces J d) (worked J d) t i

@@ -52,17 +52,17 @@ module _ (J : Job) (sound : Sound J) (free : ring_piece J ≡ none) where
   waits_may d t i w = record {
     opened = always_open J d t;
     inside = w.inside;
-    on_desk_lem = w.on_desk_lem;
-    is_ready_lem = ready_is_ready t i w.is_ready_lem;
+    at_desk = w.at_desk;
+    ready_then = ready_is_ready t i w.ready_then;
     unfinished = omega (arith, w.unfinished, left_and_had J t i w.inside);
   }
 
   pub may_waits : (d t i : ℕ) → MayWork J d t i → Waits J (work_at J t) d t i
   may_waits d t i m = record {
     inside = m.inside;
-    on_desk_lem = m.on_desk_lem;
+    at_desk = m.at_desk;
     unfinished = omega (arith, m.unfinished, left_and_had J t i m.inside);
-    is_ready_lem = ready_tested t i m.is_ready_lem;
+    ready_then = ready_tested t i m.ready_then;
   }
 
 -- DEMAND 2. In every slot of an accepted file's plan each desk works on the most urgent piece that it may work on.

@@ -64,13 +64,13 @@ urgency J = record {
 }
 
 module _ (J : Job) (sound : Sound J) (free : ring_piece J ≡ none) (d : ℕ) where
-  on_desk_lem : (i : ℕ) → Mem i (desk_pieces J d) → (i < piece_count J) × (desk J i ≡ d)
-  on_desk_lem = mem_desk_pieces J d
+  at_desk : (i : ℕ) → Mem i (desk_pieces J d) → (i < piece_count J) × (desk J i ≡ d)
+  at_desk = mem_desk_pieces J d
 
   -- The slots had by a piece of the desk are those of the desk's plan.
   pub had_here : (t i : ℕ) → Mem i (desk_pieces J d) → left_at J t i + did (worked J d) i t ≡ duration J i
   had_here t i m =
-      let w = on_desk_lem i m in
+      let w = at_desk i m in
       rw w.1 at (left_and_had J t i w.0)
 
   abbrev Lin : ℕ → ℕ → Type 0
@@ -79,28 +79,28 @@ module _ (J : Job) (sound : Sound J) (free : ring_piece J ≡ none) (d : ℕ) wh
   pub waits_linked : (t i : ℕ) → Mem i (desk_pieces J d) → Waits J (work_at J t) d t i → Lin t i
   waits_linked t i m w = record {
     hour = always_open J d t;
-    ripe = R.ready_least J i t (ready_release J (work_at J t) t i w.is_ready_lem)
+    ripe = R.ready_least J i t (ready_release J (work_at J t) t i w.ready_then)
         (λ l k. let e = R.elsewhere_link J i l k in
-        let h = handed_fact J (work_at J t) t l (ready_before J (work_at J t) t i w.is_ready_lem l e.0) in
+        let h = handed_fact J (work_at J t) t l (ready_before J (work_at J t) t i w.ready_then l e.0) in
         let b = (link_fit J sound l (into_link J i l e.0).0).before_one in
         omega (arith, h.1, finish_settled J sound free t l.before b h.0));
     left = omega (arith, w.unfinished, had_here t i m);
     ahead = λ a k b.
         let l = linked_link J a i b in
         let h = handed_fact J (work_at J t) t l.0
-        (ready_before J (work_at J t) t i w.is_ready_lem l.0 (link_into J i l.0 l.1 l.3)) in
+        (ready_before J (work_at J t) t i w.ready_then l.0 (link_into J i l.0 l.1 l.3)) in
         let z : left_at J t a ≡ 0 = rw l.2 at h.0 in
         omega (arith, had_here t a k);
   }
 
   linked_waits : (t i : ℕ) → Mem i (desk_pieces J d) → Lin t i → Waits J (work_at J t) d t i
   linked_waits t i m c =
-      let w = on_desk_lem i m in
+      let w = at_desk i m in
       record {
         inside = w.0;
-        on_desk_lem = w.1;
+        at_desk = w.1;
         unfinished = omega (arith, c.left, had_here t i m);
-        is_ready_lem = ready_intro J (work_at J t) t i (omega (arith, R.ready_release J i, c.ripe))
+        ready_then = ready_intro J (work_at J t) t i (omega (arith, R.ready_release J i, c.ripe))
             (λ l k. let p = into_link J i l k in
             let b = (link_fit J sound l p.0).before_one in
             by_test (eqb (desk J l.before) (desk J i))
@@ -124,7 +124,7 @@ module _ (J : Job) (sound : Sound J) (free : ring_piece J ≡ none) (d : ℕ) wh
   desk_obeys_links t = by_choice (worked J d t)
       (λ e. rest e (λ f m c. choice-none J (work_at J t) d t (always_open J d t) e f (linked_waits t f m c)))
       (λ i e. let c = worked_chosen J d t i e in
-      let m : Mem i (desk_pieces J d) = desk_pieces_mem J d i c.waits.inside c.waits.on_desk_lem in
+      let m : Mem i (desk_pieces J d) = desk_pieces_mem J d i c.waits.inside c.waits.at_desk in
       work i m e (waits_linked t i m c.waits) (λ f n k ne. c.first f (linked_waits t f n k) ne))
 
   pub raised_moments_lem : Raised (ready J) (raised J) (duration J) (open_end J d) (linked J) (desk_pieces J d)
@@ -133,13 +133,13 @@ module _ (J : Job) (sound : Sound J) (free : ring_piece J ≡ none) (d : ℕ) wh
     later = λ a i k m b.
         let l = linked_link J a i b in
         let own = link_into J i l.0 l.1 l.3 in
-        let same : desk J l.0.before ≡ desk J i = ap (desk J) l.2 ∙ (on_desk_lem a k).1 ∙ sym (on_desk_lem i m).1 in
-        rw ((on_desk_lem i m).1, l.2) at (R.raised_after J sound free i l.0 (R.link_own J i l.0 own same));
+        let same : desk J l.0.before ≡ desk J i = ap (desk J) l.2 ∙ (at_desk a k).1 ∙ sym (at_desk i m).1 in
+        rw ((at_desk i m).1, l.2) at (R.raised_after J sound free i l.0 (R.link_own J i l.0 own same));
     least = λ i m t h k. R.raised_least J sound free i t h
         (λ l o. let w = R.own_link J i l o in
         let p = into_link J i l w.0 in
         let b = (link_fit J sound l p.0).before_one in
-        rw (on_desk_lem i m).1 (k l.before (desk_pieces_mem J d l.before b (w.1 ∙ (on_desk_lem i m).1))
+        rw (at_desk i m).1 (k l.before (desk_pieces_mem J d l.before b (w.1 ∙ (at_desk i m).1))
         (rw p.1 at (link_linked J l p.0))));
   }
 
@@ -148,5 +148,5 @@ module _ (J : Job) (sound : Sound J) (free : ring_piece J ≡ none) (d : ℕ) wh
   desk_obeys =
       links_disappear itself (ready J) (raised J) (duration J) (is_open J d) (open_end J d) (sooner J) (linked J)
       (desk_pieces J d) (worked J d) (desk_hours J d) raised_moments_lem
-      (λ i m. (fits J sound i (on_desk_lem i m).0).duration_least) (pieces_distinct J d) desk_obeys_links (urgency J)
+      (λ i m. (fits J sound i (at_desk i m).0).duration_least) (pieces_distinct J d) desk_obeys_links (urgency J)
       (λ a b k m h. let l = linked_link J a b h in rw (l.2, l.3) at (before_is_sooner J sound free l.0 l.1))

@@ -73,7 +73,7 @@ module _ (J : Job) (sound : Sound J) (free : ring_piece J ≡ none) (d : ℕ) wh
           let q : runs_from none (turns_of (is_open J d) (worked J d) (horizon J)) ≡ r ∷ rs = sym (runs_are J d) ∙ e in
           let t = runs-true (is_open J d) (worked J d) (horizon J) r (rw q (here refl)) in
           let c = (worked_chosen J d r.from r.piece t.begins).waits in
-          absurd (nobody r.piece (desk_pieces_mem J d r.piece c.inside c.on_desk_lem))
+          absurd (nobody r.piece (desk_pieces_mem J d r.piece c.inside c.at_desk))
 
   pub runs_few : length (runs J d) ≤ 2 * length (desk_pieces J d)
   runs_few = by_test (ltb 0 (length (desk_pieces J d)))

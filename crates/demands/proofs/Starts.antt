@@ -134,5 +134,5 @@ module _ (file : List ℕ) (J : Job) (accept : AcceptedAs file J) where
       let first = start_is_the_first_slot l.after (link_fit J sound l m).after_one in
       let c = worked_chosen J (desk J l.after) s l.after first.works in
       let w = handed_fact J (work_at J s) s l
-      (ready_before J (work_at J s) s l.after c.waits.is_ready_lem l (link_into J l.after l m refl)) in
+      (ready_before J (work_at J s) s l.after c.waits.ready_then l (link_into J l.after l m refl)) in
       (omega (arith, w.1, finish_settled J sound free s l.before b w.0), none_left J s l.before b w.0)

@@ -28,8 +28,8 @@ pub record ReadyAt (J : Job) (t i : ℕ) : Type 0 where
 pub record MayWork (J : Job) (d t i : ℕ) : Type 0 where
   pub opened : is_open J d t ≡ true
   pub inside : i < piece_count J
-  pub on_desk_lem : desk J i ≡ d
-  pub is_ready_lem : ReadyAt J t i
+  pub at_desk : desk J i ≡ d
+  pub ready_then : ReadyAt J t i
   pub unfinished : had J i t < duration J i
 
 -- It is the most urgent that may: sooner than every other.

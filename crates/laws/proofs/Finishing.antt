@@ -158,7 +158,7 @@ module _ (J : Job) where
       unfolding all_left
       busy t d p e =
           let c = (worked_chosen J d t p e).waits in
-          let on : worked J (desk J p) t ≡ some p = ap (λ x. worked J x t) c.on_desk_lem ∙ e in
+          let on : worked J (desk J p) t ≡ some p = ap (λ x. worked J x t) c.at_desk ∙ e in
           let one : left_at J (suc t) p + 1 ≤ left_at J t p = omega (arith, left_worked J t p c.inside on) in
           let less : all_left (suc t) + 1 ≤ all_left t =
           sum_gap (left_at J (suc t)) (left_at J t) 1 (below (piece_count J))
@@ -174,7 +174,7 @@ module _ (J : Job) where
           let unready : is_ready J (work_at J t) t i ≡ false =
           by_test (is_ready J (work_at J t) t i)
           (λ r. absurd (choice-none J (work_at J t) (desk J i) t (always_open J (desk J i) t) e i
-          (record { inside = x.inside; on_desk_lem = refl; unfinished = x.unfinished; is_ready_lem = r })))
+          (record { inside = x.inside; at_desk = refl; unfinished = x.unfinished; ready_then = r })))
           (λ r. r) in
           let w = unready_link J (work_at J t) t i (omega (arith, release_past i x.inside)) unready in
           let l = w.0 in

@@ -113,9 +113,9 @@ module _ (J : Job) where
   -- Piece i is waiting on desk d at moment t: of the desk, unfinished and ready.
   pub record Waits (W : List Progress) (d t i : ℕ) : Type 0 where
     pub inside : i < piece_count J
-    pub on_desk_lem : desk J i ≡ d
+    pub at_desk : desk J i ≡ d
     pub unfinished : 0 < (progress W i).left
-    pub is_ready_lem : is_ready J W t i ≡ true
+    pub ready_then : is_ready J W t i ≡ true
 
   pub mem_waiting : (W : List Progress) (d t i : ℕ) → Mem i (waiting J W d t) → Waits W d t i
   unfolding waiting
@@ -125,17 +125,17 @@ module _ (J : Job) where
       let q = and_true (ltb 0 (progress W i).left) (is_ready J W t i) w.1 in
       record {
         inside = p.0;
-        on_desk_lem = p.1;
+        at_desk = p.1;
         unfinished = ltb-true 0 (progress W i).left q.0;
-        is_ready_lem = q.1;
+        ready_then = q.1;
       }
 
   pub waiting_mem : (W : List Progress) (d t i : ℕ) → Waits W d t i → Mem i (waiting J W d t)
   unfolding waiting
   waiting_mem W d t i w =
       keep_mem (λ i. ltb 0 (progress W i).left && is_ready J W t i) (desk_pieces J d) i
-      (desk_pieces_mem d i w.inside w.on_desk_lem)
-      (and_intro _ _ (lt-ltb 0 (progress W i).left w.unfinished) w.is_ready_lem)
+      (desk_pieces_mem d i w.inside w.at_desk)
+      (and_intro _ _ (lt-ltb 0 (progress W i).left w.unfinished) w.ready_then)
 
   -- A desk works on a piece: the desk is open, the piece waits there, and goes before every other that does.
   pub record Chosen (W : List Progress) (d t i : ℕ) : Type 0 where

@@ -39,7 +39,7 @@ module _ (J : Job) (sound : Sound J) (free : ring_piece J ≡ none) (d : ℕ) wh
   pub works_own : (t i : ℕ) → block_worked J d t ≡ some i → Mem i (desk_pieces J d)
   works_own t i e =
       let c = (worked_chosen J d t i (sym (agrees J sound free d t) ∙ e)).waits in
-      desk_pieces_mem J d i c.inside c.on_desk_lem
+      desk_pieces_mem J d i c.inside c.at_desk
 
   -- And on each of them.
   pub works_each : (i : ℕ) → Mem i (desk_pieces J d) → (t : ℕ) × (t < horizon J) × (block_worked J d t ≡ some i)

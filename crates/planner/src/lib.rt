@@ -1,5 +1,7 @@
 // The public call of the plan: result and run records in the lent buffer. Everything is judged before the first byte is
 // written.
+#![tactic(auto)]
+
 ghost use Rattle.demands.specs.Promises.{PlanPromise};
 
 use plan_answer::{answer_plan, refused};

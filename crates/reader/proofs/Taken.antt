@@ -28,8 +28,8 @@ pub record Taken (s : List ℕ) (n m : ℕ) (desks durations releases dues befor
   pub few_pieces : n ≤ 256
   pub few_links : m ≤ 1024
   pub onward : read_job s ≡ rest s (n + m) (job_in n m desks durations releases dues befores afters handovers)
-  pub piece_tables_lem : PieceTables desks durations releases dues
-  pub link_tables_lem : LinkTables befores afters handovers
+  pub tables_of_pieces : PieceTables desks durations releases dues
+  pub tables_of_links : LinkTables befores afters handovers
 
 pub taken_start : (s : List ℕ) {desks durations releases dues befores afters handovers : List ℕ} →
     PieceTables desks durations releases dues → LinkTables befores afters handovers →
@@ -39,8 +39,8 @@ taken_start s p l = record {
   few_pieces = omega arith;
   few_links = omega arith;
   onward = from_start s;
-  piece_tables_lem = p;
-  link_tables_lem = l;
+  tables_of_pieces = p;
+  tables_of_links = l;
 }
 
 module _ {s : List ℕ} {n m : ℕ} {desks durations releases dues befores afters handovers : List ℕ}
@@ -68,7 +68,7 @@ module _ {s : List ℕ} {n m : ℕ} {desks durations releases dues befores after
         (set dues n p.due) befores afters handovers ≡ with_piece J p
     unfolding job_in
     with_piece_lem =
-        let z = taken.piece_tables_lem in
+        let z = taken.tables_of_pieces in
         let room = piece_room in
         ap (λ P. record { pieces = P; links = links_in m befores afters handovers })
         (pieces_more n desks durations releases dues p (omega arith) (omega arith) (omega arith) (omega arith))
@@ -77,7 +77,7 @@ module _ {s : List ℕ} {n m : ℕ} {desks durations releases dues befores after
         PieceEntered p n desks durations releases dues desks' durations' releases' dues' →
         Taken s (n + 1) m desks' durations' releases' dues' befores afters handovers
     piece_on e =
-        let z = taken.piece_tables_lem in
+        let z = taken.tables_of_pieces in
         let room = piece_room in
         let next : n + m + 1 ≡ n + 1 + m = omega arith in
         rw (e.desk, e.duration, e.release, e.due)
@@ -86,13 +86,13 @@ module _ {s : List ℕ} {n m : ℕ} {desks durations releases dues befores after
           few_links = taken.few_links;
           onward =
               taken.onward ∙ on_piece s (n + m) J p read ∙ ap₂ (λ k K. rest s k K) next (sym with_piece_lem);
-          piece_tables_lem = record {
+          tables_of_pieces = record {
             desks_long = length-set desks n p.desk ∙ z.desks_long;
             durations_long = length-set durations n p.duration ∙ z.durations_long;
             releases_long = length-set releases n p.release ∙ z.releases_long;
             dues_long = length-set dues n p.due ∙ z.dues_long;
           };
-          link_tables_lem = taken.link_tables_lem;
+          tables_of_links = taken.tables_of_links;
         })
 
   module _ (l : Link) (read : item_at s (n + m) J ≡ Tie l) where
@@ -103,7 +103,7 @@ module _ {s : List ℕ} {n m : ℕ} {desks durations releases dues befores after
         (set handovers m l.handover) ≡ with_link J l
     unfolding job_in
     with_link_lem =
-        let z = taken.link_tables_lem in
+        let z = taken.tables_of_links in
         let room = link_room in
         ap (λ L. record { pieces = pieces_in n desks durations releases dues; links = L })
         (links_more m befores afters handovers l (omega arith) (omega arith) (omega arith))
@@ -112,7 +112,7 @@ module _ {s : List ℕ} {n m : ℕ} {desks durations releases dues befores after
         LinkEntered l m befores afters handovers befores' afters' handovers' →
         Taken s n (m + 1) desks durations releases dues befores' afters' handovers'
     link_on e =
-        let z = taken.link_tables_lem in
+        let z = taken.tables_of_links in
         let room = link_room in
         let next : n + m + 1 ≡ n + (m + 1) = omega arith in
         rw (e.before, e.after, e.handover)
@@ -120,8 +120,8 @@ module _ {s : List ℕ} {n m : ℕ} {desks durations releases dues befores after
           few_pieces = taken.few_pieces;
           few_links = omega arith;
           onward = taken.onward ∙ on_link s (n + m) J l read ∙ ap₂ (λ k K. rest s k K) next (sym with_link_lem);
-          piece_tables_lem = taken.piece_tables_lem;
-          link_tables_lem = record {
+          tables_of_pieces = taken.tables_of_pieces;
+          tables_of_links = record {
             befores_long = length-set befores m l.before ∙ z.befores_long;
             afters_long = length-set afters m l.after ∙ z.afters_long;
             handovers_long = length-set handovers m l.handover ∙ z.handovers_long;
@@ -137,12 +137,12 @@ module _ {s : List ℕ} {n m : ℕ} {desks durations releases dues befores after
   ends (Stop x) e w t r q = rw q (record {
     says = taken.onward ∙ on_stop s (n + m) J x e;
     few = tt;
-    piece_tables_lem = taken.piece_tables_lem;
-    link_tables_lem = taken.link_tables_lem;
+    tables_of_pieces = taken.tables_of_pieces;
+    tables_of_links = taken.tables_of_links;
   })
   ends Done e w t r q = rw q (record {
     says = taken.onward ∙ on_done s (n + m) J e;
     few = (taken.few_pieces, taken.few_links);
-    piece_tables_lem = taken.piece_tables_lem;
-    link_tables_lem = taken.link_tables_lem;
+    tables_of_pieces = taken.tables_of_pieces;
+    tables_of_links = taken.tables_of_links;
   })

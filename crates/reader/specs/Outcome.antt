@@ -31,5 +31,5 @@ pub record ReadsJob (s : List ℕ) (r : Read) (desks durations releases dues bef
     : Type 0 where
   pub says : read_job s ≡ outcome_of r desks durations releases dues befores afters handovers
   pub few : Few r
-  pub piece_tables_lem : PieceTables desks durations releases dues
-  pub link_tables_lem : LinkTables befores afters handovers
+  pub tables_of_pieces : PieceTables desks durations releases dues
+  pub tables_of_links : LinkTables befores afters handovers

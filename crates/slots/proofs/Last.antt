@@ -74,7 +74,7 @@ module _ (J : Job) where
       (λ e. last_inside d t i (sym (last_rested d t e) ∙ h))
       (λ x e. let w = (worked_chosen J d t x e).waits in
       let q : x ≡ i = some_inj (sym (last_worked d t x e) ∙ h) in
-      rw (← q) (w.inside, w.on_desk_lem))
+      rw (← q) (w.inside, w.at_desk))
 
   -- Before a desk worked at all, nothing is worked off its pieces.
   pub untouched_yet : (d t i : ℕ) → last_on J d t ≡ none → i < piece_count J → desk J i ≡ d → (at J t i).left ≡ duration J i
@@ -100,7 +100,7 @@ module _ (J : Job) where
     pub begun-ready : (t i : ℕ) → i < piece_count J → (at J t i).left < duration J i → is_ready J (work_at J t) t i ≡ true
     begun-ready zero i h b = absurd (omega (arith, ap (λ p. p.left) (work_start J i)))
     begun-ready (suc t) i h b = by_work J t i
-        (λ e. ready-stays t i (worked_chosen J (desk J i) t i e).waits.is_ready_lem)
+        (λ e. ready-stays t i (worked_chosen J (desk J i) t i e).waits.ready_then)
         (λ e. ready-stays t i (begun-ready t i h (rw (work_off J t i h e) at b)))
 
     -- Who a desk worked on last, while it is unfinished: its run has no gap behind it, it waits, and it goes before every
@@ -123,9 +123,9 @@ module _ (J : Job) where
           on_time = end_worked d t j e ∙ later;
           waits = record {
             inside = c.waits.inside;
-            on_desk_lem = c.waits.on_desk_lem;
+            at_desk = c.waits.at_desk;
             unfinished = a;
-            is_ready_lem = ready-stays t j c.waits.is_ready_lem;
+            ready_then = ready-stays t j c.waits.ready_then;
           };
           first = λ i h q ne b l.
               let s : at J (suc t) i ≡ at J t i =
@@ -133,9 +133,9 @@ module _ (J : Job) where
               c.first i
               (record {
                 inside = h;
-                on_desk_lem = q;
+                at_desk = q;
                 unfinished = rw s at l;
-                is_ready_lem = begun-ready t i h (rw s at b);
+                ready_then = begun-ready t i h (rw s at b);
               }) ne;
         }
       where
@@ -158,6 +158,6 @@ module _ (J : Job) where
         by_test (ltb (at J t i).left (duration J i))
         (λ b. true_or_false
         (sym (c.first j u.waits (λ z. ne (sym z)))
-        ∙ sooner_asym J j i (u.first i c.waits.inside c.waits.on_desk_lem ne (ltb-true _ _ b)
+        ∙ sooner_asym J j i (u.first i c.waits.inside c.waits.at_desk ne (ltb-true _ _ b)
         c.waits.unfinished)))
         (λ b. omega (arith, ltb-false (at J t i).left (duration J i) b, left_whole J t i c.waits.inside))

@@ -111,7 +111,7 @@ module _ (J : Job) where
     new_rises d t i e b =
         let w = (worked_chosen J d t i e).waits in
         let f : (at J (suc t) i).left ≡ (at J t i).left - 1 =
-        ap (λ p. p.left) (work_on_lem J t i w.inside (ap (λ x. worked J x t) w.on_desk_lem ∙ e)) in
+        ap (λ p. p.left) (work_on_lem J t i w.inside (ap (λ x. worked J x t) w.at_desk ∙ e)) in
         let u : 0 < (at J t i).left = w.unfinished in
         let was : score J t i ≡ 0 =
         rw (score_is t i)
@@ -123,7 +123,7 @@ module _ (J : Job) where
         let is : 1 ≤ score J (suc t) i =
         rw (score_is (suc t) i)
         (omega (arith, one_true (begun (suc t) i) (lt-ltb (at J (suc t) i).left (duration J i) (omega arith)))) in
-        (i, w.inside, w.on_desk_lem, omega arith)
+        (i, w.inside, w.at_desk, omega arith)
 
     -- .. or it was finished before.
     old_rises : (d t i j : ℕ) → worked J d t ≡ some i → last_on J d t ≡ some j → (i ≡ j → ⊥) → (at J t j).left ≡ 0
@@ -152,7 +152,7 @@ module _ (J : Job) where
     pub run_rises : (d t i : ℕ) → worked J d t ≡ some i → (last_on J d t ≡ some i → ⊥) → Rises d t
     run_rises d t i e ne = by_choice (last_on J d t)
         (λ l. let w = (worked_chosen J d t i e).waits in
-        new_rises d t i e (untouched_yet J d t i l w.inside w.on_desk_lem))
+        new_rises d t i e (untouched_yet J d t i l w.inside w.at_desk))
         (λ j l. by_test (eqb (at J t j).left 0)
         (λ f. old_rises d t i j e l (λ z. ne (l ∙ ap some (sym z))) (eqb-true _ 0 f))
         (λ f. new_rises d t i e (leaves_for_new J sound d t j i l (omega (arith, eqb-false (at J t j).left 0 f)) e

@@ -59,25 +59,25 @@ module _ (J : Job) where
       -- The same pieces wait on a desk as at the beginning.
       waits_still : (d i : ℕ) → Waits J (work_at J t) d t i → Waits J (work_at J (t + j)) d (t + j) i
       waits_still d i w =
-          let r = ready_waits J (work_at J t) t i w.is_ready_lem in
+          let r = ready_waits J (work_at J t) t i w.ready_then in
           record {
             inside = w.inside;
-            on_desk_lem = w.on_desk_lem;
+            at_desk = w.at_desk;
             unfinished = alive_left i w.inside w.unfinished;
-            is_ready_lem = waits_ready J (work_at J (t + j)) (t + j) i
+            ready_then = waits_ready J (work_at J (t + j)) (t + j) i
                 (sym (waits_same i) ∙ r.0) (omega (arith, r.1, ready_same i));
           }
 
       waits_before : (d i : ℕ) → Waits J (work_at J (t + j)) d (t + j) i → Waits J (work_at J t) d t i
       waits_before d i w =
-          let r = ready_waits J (work_at J (t + j)) (t + j) i w.is_ready_lem in
+          let r = ready_waits J (work_at J (t + j)) (t + j) i w.ready_then in
           let a : 0 < (at J t i).left = left_alive i w.inside w.unfinished in
           let n : waits_of J (at J t) i ≡ 0 = waits_same i ∙ r.0 in
           record {
             inside = w.inside;
-            on_desk_lem = w.on_desk_lem;
+            at_desk = w.at_desk;
             unfinished = a;
-            is_ready_lem = waits_ready J (work_at J t) t i n
+            ready_then = waits_ready J (work_at J t) t i n
                 (by_test (ltb t (ready_of J (at J t) i))
                 (λ e. absurd (omega (arith, r.1, ready_same i, s.quiet i w.inside a n (ltb-true _ _ e))))
                 (λ e. ltb-false _ _ e));

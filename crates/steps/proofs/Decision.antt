@@ -52,17 +52,17 @@ module _ (J : Job) (n : ℕ) (v : View) (S : ℕ → Type 0) (s : Shown J n v S)
       let h : i < n = s.inside i m in
       record {
         inside = rw s.count h;
-        on_desk_lem = s.desk_is i h ∙ a.0;
+        at_desk = s.desk_is i h ∙ a.0;
         unfinished = s.unfinished i m;
-        is_ready_lem = waits_ready J (work_at J v.moment) v.moment i (s.idle i m) (rw (s.ready_is i h) at a.1);
+        ready_then = waits_ready J (work_at J v.moment) v.moment i (s.idle i m) (rw (s.ready_is i h) at a.1);
       }
 
   waits_asks : (d i : ℕ) → Waits J (work_at J v.moment) d v.moment i → S i × Asks v S d i
   waits_asks d i w =
       let h : i < n = rw s.count at w.inside in
-      let r = ready_waits J (work_at J v.moment) v.moment i w.is_ready_lem in (
+      let r = ready_waits J (work_at J v.moment) v.moment i w.ready_then in (
         s.everyone i h w.unfinished r.0,
-        (sym (s.desk_is i h) ∙ w.on_desk_lem, rw (s.ready_is i h) r.1),
+        (sym (s.desk_is i h) ∙ w.at_desk, rw (s.ready_is i h) r.1),
       )
 
   -- Who goes first of those that ask is who the desk works on.

@@ -89,12 +89,12 @@ module _ (J : Job) (sound : Sound J) (n : ℕ) (desks : List ℕ) (t u k : ℕ) 
     inside = rw count at (worked_chosen J d t i q).waits.inside
 
     own_desk : get_or desks i 0 ≡ d
-    own_desk = sym (desk_is i inside) ∙ (worked_chosen J d t i q).waits.on_desk_lem
+    own_desk = sym (desk_is i inside) ∙ (worked_chosen J d t i q).waits.at_desk
 
     pub room : l.runs < 512
     room =
         let early : moment_of t u M (desk J i) ≡ t =
-        rw (worked_chosen J d t i q).waits.on_desk_lem (moment_early t u M d new) in
+        rw (worked_chosen J d t i q).waits.at_desk (moment_early t u M d new) in
         omega (
           arith,
           h.few,

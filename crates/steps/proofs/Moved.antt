@@ -84,7 +84,7 @@ module _ (J : Job) where
     -- And who it works on was at moment t, and is now worked on for the whole stretch.
     module _ (M : ℕ → Bool) (d : ℕ) (new : M d ≡ false) (i : ℕ) (w : worked J d t ≡ some i) where
       own_desk : desk J i ≡ d
-      own_desk = (worked_chosen J d t i w).waits.on_desk_lem
+      own_desk = (worked_chosen J d t i w).waits.at_desk
 
       pub moved_from : standing (moment_of t u M) i ≡ at J t i
       moved_from = ap (λ x. at J x i) (rw own_desk (moment_early t u M d new))

@@ -11,7 +11,7 @@ loop-p-init c = taken_start c.args.file.now c.requires.piece_tables c.requires.l
 pub enter_piece-requires : goal.enter_piece-requires
 enter_piece-requires c =
     let taken = c.loop-p.invariant in
-    (piece_room taken c.in-Work.p (told taken _ c.in-Work.ensures), taken.piece_tables_lem)
+    (piece_room taken c.in-Work.p (told taken _ c.in-Work.ensures), taken.tables_of_pieces)
 
 pub loop-p-smaller-in-Work : goal.loop-p-smaller-in-Work
 loop-p-smaller-in-Work c =
@@ -35,7 +35,7 @@ returns-in_default-found c =
 pub enter_link-requires : goal.enter_link-requires
 enter_link-requires c =
     let taken = c.loop-p.invariant in
-    (link_room taken c.in-Tie.l (told taken _ c.in-Tie.ensures), taken.link_tables_lem)
+    (link_room taken c.in-Tie.l (told taken _ c.in-Tie.ensures), taken.tables_of_links)
 
 pub loop-p-smaller : goal.loop-p-smaller
 loop-p-smaller c =
