@@ -5,7 +5,8 @@ use native.Mathlib.Omega.{arith}
 use lib.ListN.{length}
 use Rattle.blocksteps.proofs.Marked.{links_none, link_inside, link_from_outside, link_to_outside}
 use Rattle.blocksteps.proofs.aside.mark_led.Goals as goal
-use Rattle.blocksteps.proofs.aside.mark_led.Goals.{then-marks-b-ne0+then-marks-a-ne0, then-marks-b-ne0+else-marks-a-ne0, else-marks-b-ne0}
+use Rattle.blocksteps.proofs.aside.mark_led.Goals.{then-marks-b-ne0+then-marks-a-ne0, else-marks-b-ne0}
+use Rattle.blocksteps.proofs.aside.mark_led.Goals.{then-marks-b-ne0+else-marks-a-ne0}
 
 pub loop-k-init : goal.loop-k-init
 loop-k-init c = (omega arith, c.requires.marks_len, λ ids h. links_none _ _ _ ids h)

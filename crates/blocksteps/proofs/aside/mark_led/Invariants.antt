@@ -11,7 +11,8 @@ use Rattle.blocksteps.proofs.aside.mark_led.Given as goal
 abbrev pub invariant-loop-k : goal.invariant-loop-k
 invariant-loop-k l =
     (l.k ≤ l.m) × (length l.marks ≡ 256)
-    × ((ids : List ℕ) → Marks l.initial.marks (member_mark ids) → Marks l.marks (led_mark (tied_in l.k l.befores l.afters) ids))
+    × ((ids : List ℕ) → Marks l.initial.marks (member_mark ids)
+    → Marks l.marks (led_mark (tied_in l.k l.befores l.afters) ids))
 
 abbrev pub decreases-loop-k : goal.decreases-loop-k
 decreases-loop-k l = l.m - l.k

@@ -9,7 +9,8 @@ use Rattle.ready.proofs.raise.raised_moments.Goals as goal
 
 pub take_releases-requires : goal.take_releases-requires
 take_releases-requires c =
-    let w = c.requires.by_index in record { n_bound = pieces_few w.0 _ _ _ _ _ _ _ _ _ w.3; table_len = c.requires.table_len }
+    let w = c.requires.by_index in
+    record { n_bound = pieces_few w.0 _ _ _ _ _ _ _ _ _ w.3; table_len = c.requires.table_len }
 
 pub loop-p-init : goal.loop-p-init
 loop-p-init c = (

@@ -11,7 +11,8 @@ use Rattle.ready.proofs.raise.raised_moments.Given as goal
 abbrev pub invariant-loop-p : goal.invariant-loop-p
 invariant-loop-p l =
     (l.p ≤ l.n)
-    × ((J : Job) (m : ℕ) (befores : List ℕ) (P : Planned J l.n m l.desks l.durations l.releases befores l.afters l.handovers l.finish)
+    × ((J : Job) (m : ℕ) (befores : List ℕ)
+    (P : Planned J l.n m l.desks l.durations l.releases befores l.afters l.handovers l.finish)
     → (w : Walkable l.n m befores l.afters l.lasts l.priors l.order)
     → Settled J P.sound P.free l.n m befores l.afters l.handovers l.order (job_count J _ _ _ _ _ _ _ _ _ P) w.ordered
     (mem_link J _ _ _ _ _ _ _ _ _ P) l.table l.p)
