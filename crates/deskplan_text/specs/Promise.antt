@@ -2,7 +2,6 @@
 -- of 131,072 bytes has room for every listing; a shorter one is left as it was.
 use Rattle.std.specs.Prelude.{ℕ, ◌+◌, ◌*◌, ◌≤◌, ◌<◌, List, ◌++◌, map, ◌≡◌, ltb, ℤ, pos, length, get_or}
 use Rattle.rules.specs.Words.{when, below, greatest, worst_of}
-use Rattle.rules.specs.Job as J
 use Rattle.rules.specs.Listing.{listing}
 use Rattle.rules.specs.Plan.{at_front}
 use Rattle.output.specs.Late.{Bounded, lateness_in}

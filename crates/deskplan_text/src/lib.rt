@@ -1,5 +1,7 @@
 // The text that deskplan prints: the listing of a job file in a lent text. Every file has one; a text of 131,072 bytes has
 // room for each.
+#![tactic(auto)]
+
 ghost use Rattle.texts.specs.Puts.{Puts};
 ghost use Rattle.deskplan_text.specs.Promise.{ListingPromise, ToPrint, pages_in};
 
