@@ -1,5 +1,7 @@
-// The calls for C and Rust to link, as calls/deskplan.h declares them. Each hands its work to the proved call and lays the
-// answer out as plain numbers.
+// The calls for C and Rust, as calls/deskplan.h declares them. Each hands its work to the proved call and lays the answer
+// out as plain numbers; exports_c gives each its name for C.
+#![tactic(auto)]
+
 ghost use Rattle.std.specs.Prelude.{◌≡◌, ◌<◌, ◌^◌, pos};
 ghost use Rattle.exports.specs.Calls.{PlanCall, SheetCall, RunsCall, ListingCall, WriteCall};
 
@@ -30,8 +32,7 @@ fn signed(x: i32) -> i64
 }
 
 // number, place, pieces, runs, end, worst
-#[unsafe(no_mangle)]
-pub extern "C" fn desk_plan(file: &[u8], buffer: &mut [u8], answer: &mut [i64; 6])
+pub fn desk_plan(file: &[u8], buffer: &mut [u8], answer: &mut [i64; 6])
     ensures { PlanCall file.now buffer.old buffer.new answer.new }
 {
     let a = planner::plan(file, buffer);
@@ -46,8 +47,7 @@ pub extern "C" fn desk_plan(file: &[u8], buffer: &mut [u8], answer: &mut [i64; 6
 }
 
 // number, place, blocks, runs, worst
-#[unsafe(no_mangle)]
-pub extern "C" fn desk_blocks(file: &[u8], desk: u8, buffer: &mut [u8], answer: &mut [i64; 5])
+pub fn desk_blocks(file: &[u8], desk: u8, buffer: &mut [u8], answer: &mut [i64; 5])
     ensures { SheetCall file.now desk buffer.old buffer.new answer.new }
 {
     let a = sheets::sheet::block_sheet(file, desk, buffer);
@@ -61,8 +61,7 @@ pub extern "C" fn desk_blocks(file: &[u8], desk: u8, buffer: &mut [u8], answer: 
 }
 
 // first byte, byte after the last
-#[unsafe(no_mangle)]
-pub extern "C" fn desk_runs(records: &[u8], desk: u8, stretch: &mut [u64; 2])
+pub fn desk_runs(records: &[u8], desk: u8, stretch: &mut [u64; 2])
     ensures { RunsCall records.now desk stretch.new }
 {
     let s = records::stretch::stretch_of(records, desk);
@@ -70,8 +69,7 @@ pub extern "C" fn desk_runs(records: &[u8], desk: u8, stretch: &mut [u64; 2])
 }
 
 // how many bytes the text took
-#[unsafe(no_mangle)]
-pub extern "C" fn desk_listing(file: &[u8], text: &mut [u8], written: &mut [u64; 1])
+pub fn desk_listing(file: &[u8], text: &mut [u8], written: &mut [u64; 1])
     ensures { ListingCall file.now text.old text.new written.new }
 {
     let count = deskplan_text::write_listing(file, text);
@@ -79,8 +77,7 @@ pub extern "C" fn desk_listing(file: &[u8], text: &mut [u8], written: &mut [u64;
 }
 
 // number, place, bytes
-#[unsafe(no_mangle)]
-pub extern "C" fn desk_write(
+pub fn desk_write(
     pieces: &[u32],
     links: &[u32],
     buffer: &mut [u8],
