@@ -77,12 +77,7 @@ pub fn desk_listing(file: &[u8], text: &mut [u8], written: &mut [u64; 1])
 }
 
 // number, place, bytes
-pub fn desk_write(
-    pieces: &[u32],
-    links: &[u32],
-    buffer: &mut [u8],
-    answer: &mut [i64; 3],
-)
+pub fn desk_write(pieces: &[u32], links: &[u32], buffer: &mut [u8], answer: &mut [i64; 3])
     ensures { WriteCall pieces.now links.now buffer.old buffer.new
         answer.new }
 {
