@@ -229,3 +229,12 @@ module _ (n t j : ℕ) (order waits : List ℕ) (Q : Queue n t order waits) (one
 pub room_for_one : (j t : ℕ) (order waits : List ℕ) → ToPassOne j t order waits → get_or waits j 0 ≡ 1 → t < 256
 room_for_one j t order waits A w =
     omega (arith, passed_room A.pieces t j order waits A.queue A.one A.few w, A.few)
+
+-- The same two steps in the numbers of the code, for a turn that finds its goal by itself.
+pub queue_takes : (n t : ℕ) (order waits : List ℕ) → Queue n t order waits → n < 256 → get_or waits n 0 ≡ 0
+    → Queue (n + 1) (t + 1) (set order t n) waits
+queue_takes n t order waits Q small z = rw (add-one, add-one) (queue_free n t order waits Q small z)
+
+pub queue_passes : (n t : ℕ) (order waits : List ℕ) → Queue n t order waits → (get_or waits n 0 ≡ 0 → ⊥)
+    → Queue (n + 1) t order waits
+queue_passes n t order waits Q h = rw add-one (queue_waiting n t order waits Q h)

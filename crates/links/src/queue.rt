@@ -18,6 +18,7 @@ pub fn count_into(afters: &[u16; 1024], count: usize, waits: &mut [u16; 256])
 }
 
 // The pieces that wait for nothing, in the order of their numbers.
+#[tactic(auto, using(crate::proofs::QueueLaws::queue_takes, crate::proofs::QueueLaws::queue_passes))]
 pub fn place_free(pieces: usize, waits: &[u16; 256], order: &mut [u16; 256]) -> usize
     requires { (pieces ≤ 256) × (length waits.now ≡ 256) × (length order.old ≡ 256) }
     ensures { Queue pieces result order.new waits.now }
