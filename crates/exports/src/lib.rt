@@ -1,5 +1,5 @@
-// The calls for C and Rust, as calls/deskplan.h declares them. Each hands its work to the proved call and lays the answer
-// out as plain numbers; exports_c gives each its name for C.
+// The calls for C and Rust, as calls/deskplan.h declares them. Each hands its work to the proved call and lays the
+// answer out as plain numbers; exports_c gives each its name for C.
 #![tactic(auto)]
 
 ghost use Rattle.std.specs.Prelude.{◌≡◌, ◌<◌, ◌^◌, pos};
