@@ -13,7 +13,7 @@ use desklist::order::desk_order;
 use solve::sets::cut_set;
 
 // How many blocks and runs the tables hold, and the worst lateness.
-#[derive(Drop)]
+#[derive(Clone, Copy)]
 pub struct Sheet {
     pub blocks: usize,
     pub runs: usize,

@@ -5,7 +5,7 @@ ghost use Rattle.method.specs.Hours.{desk_end};
 ghost use Rattle.blocksteps.specs.Listed.{entry_in, Listed, Same16, Extends};
 
 // A block: how many of the set's pieces it has, and its end.
-#[derive(Drop)]
+#[derive(Clone, Copy)]
 pub struct Extent {
     pub count: usize,
     pub end: u32,

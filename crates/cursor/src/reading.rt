@@ -9,7 +9,7 @@ use crate::items::item_at;
 use rules::Item;
 
 // The lent file, and how many of its records are behind.
-#[derive(Drop)]
+#[derive(Clone, Copy)]
 pub struct Reader<'a> {
     pub file: &'a [u8],
     pub at: usize,

@@ -16,7 +16,7 @@ pub const NEVER: u32 = 4294967295;
 const NO_KEY: u64 = 18446744073709551615;
 
 // What a look at the open pieces finds: how many desks work, and the next moment.
-#[derive(Drop)]
+#[derive(Clone, Copy)]
 pub struct Look {
     pub count: usize,
     pub next: u32,

@@ -6,7 +6,7 @@ ghost use Rattle.rules.specs.Words.{when};
 ghost use Rattle.rules.specs.Reading.{first_fault};
 
 // There is this fault where the test holds.
-#[derive(Drop)]
+#[derive(Clone, Copy)]
 pub struct Test(pub bool, pub u8);
 
 // A test that finds nothing, for the rest of a row.

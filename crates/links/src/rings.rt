@@ -6,7 +6,7 @@ use crate::chains::chain_links;
 use crate::queue::{count_into, pass_all, pass_on, place_free};
 
 // No ring, or the lowest piece on one.
-#[derive(Drop)]
+#[derive(Clone, Copy)]
 pub enum Ring {
     Free,
     At(usize),

@@ -8,7 +8,7 @@ use crate::judged::judge_file;
 use reader::Read;
 use rules::Refusal;
 
-#[derive(Drop)]
+#[derive(Clone, Copy)]
 pub enum Planned {
     Plan { pieces: usize, runs: usize },
     Refused(Refusal),

@@ -12,7 +12,7 @@ use cursor::reading::item;
 use rules::{Item, Link, Piece, Refusal};
 
 // The answer: so many pieces and links in the tables, or the refusal.
-#[derive(Drop)]
+#[derive(Clone, Copy)]
 pub enum Read {
     Job { pieces: usize, links: usize },
     Refused(Refusal),

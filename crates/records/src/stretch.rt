@@ -48,7 +48,7 @@ fn past_last_run(records: &[u8], desk: u8, first: usize) -> usize
 }
 
 // The first byte of the stretch, and the byte after its last.
-#[derive(Drop)]
+#[derive(Clone, Copy)]
 pub struct Stretch {
     pub from: usize,
     pub end: usize,

@@ -1,9 +1,10 @@
 // The types that the planner's stations share, as the rules page names them. No function stands here: the rules
 // themselves are the definitions in specs/, one file for each section of the page, and the contracts of all other
 // crates cite those.
+#![tactic(auto)]
 
 // A piece of work, as a record of kind 1 gives it.
-#[derive(Drop)]
+#[derive(Clone, Copy)]
 pub struct Piece {
     pub desk: u8,
     pub duration: u16,
@@ -12,7 +13,7 @@ pub struct Piece {
 }
 
 // A link, as a record of kind 2 gives it: `before` is finished and handed over before `after` starts.
-#[derive(Drop)]
+#[derive(Clone, Copy)]
 pub struct Link {
     pub before: u16,
     pub after: u16,
@@ -20,14 +21,14 @@ pub struct Link {
 }
 
 // A refusal: its number on the page's list, and its place.
-#[derive(Drop)]
+#[derive(Clone, Copy)]
 pub struct Refusal {
     pub number: u8,
     pub place: u64,
 }
 
 // One record of a job file as the reader gives it.
-#[derive(Drop)]
+#[derive(Clone, Copy)]
 pub enum Item {
     Work(Piece),
     Tie(Link),
@@ -36,7 +37,7 @@ pub enum Item {
 }
 
 // The answer of the plan.
-#[derive(Drop)]
+#[derive(Clone, Copy)]
 pub struct PlanAnswer {
     pub number: u8,
     pub place: u64,
@@ -47,7 +48,7 @@ pub struct PlanAnswer {
 }
 
 // The answer of the block sheet of one desk.
-#[derive(Drop)]
+#[derive(Clone, Copy)]
 pub struct BlockAnswer {
     pub number: u8,
     pub place: u64,
@@ -57,7 +58,7 @@ pub struct BlockAnswer {
 }
 
 // The answer of the writer of job files.
-#[derive(Drop)]
+#[derive(Clone, Copy)]
 pub struct WriteAnswer {
     pub number: u8,
     pub place: u64,

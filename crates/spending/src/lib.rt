@@ -15,7 +15,7 @@ use moving::log::note;
 use moving::work::work_on;
 
 // How many runs are noted, and how many pieces are open.
-#[derive(Drop)]
+#[derive(Clone, Copy)]
 pub struct Moved {
     pub runs: usize,
     pub opened: usize,

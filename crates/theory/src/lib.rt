@@ -1,1 +1,2 @@
 // The mathematics of one desk: definitions and laws in proofs/, no functions.
+#![tactic(auto)]
