@@ -10,10 +10,14 @@ use lib.Dec.{leb, ltb, eqb}
 use lib.ListN.{length, take}
 use Rattle.rules.specs.Words.{when, one_of}
 use Rattle.rules.specs.Job.{Job, Outcome, refused, accepted, piece_count, empty_job}
-use Rattle.rules.specs.File.{byte_at, whole_records, record_at, Kind, of_piece, of_link, unknown, kind_of, as_piece, as_link, zero_places}
-use Rattle.rules.specs.Reading.{piece_fault, link_fault, zero_fault, kind_fault, order_fault, value_fault, first_fault, record_fault, contents, unless_fault, judged, at_end, item_at, and_then, read_from, read_job}
+use Rattle.rules.specs.File.{byte_at, whole_records, record_at, Kind, of_piece, of_link, unknown, kind_of, as_piece}
+use Rattle.rules.specs.File.{as_link, zero_places}
+use Rattle.rules.specs.Reading.{piece_fault, link_fault, zero_fault, kind_fault, order_fault, value_fault}
+use Rattle.rules.specs.Reading.{first_fault, record_fault, contents, unless_fault, judged, at_end, item_at, and_then}
+use Rattle.rules.specs.Reading.{read_from, read_job}
 use Rattle.rules.specs.Rings.{ring_piece}
-use Rattle.rules.specs.Judgement.{then_judge, unless_ring, unless_no_desk, unless_short, file_outcome, plan_outcome, block_outcome}
+use Rattle.rules.specs.Judgement.{then_judge, unless_ring, unless_no_desk, unless_short, file_outcome, plan_outcome}
+use Rattle.rules.specs.Judgement.{block_outcome}
 use Rattle.rules.specs.Plan.{plan_numbers, plan_answer_of, plan_buffer_of, plan_answer, plan_buffer}
 use Rattle.rules.specs.BlockSheet.{block_numbers, block_answer_of, block_buffer_of, block_answer, block_buffer}
 use Rattle.rules.specs.Listing.{listing_of, listing}

@@ -36,7 +36,8 @@ use Rattle.demands.specs.Accepted.{AcceptedAs}
 use Rattle.demands.specs.Allowed.{AllowedPlan, worst_lateness}
 use Rattle.demands.proofs.Accepting.{accepted_sound, accepted_free}
 use Rattle.demands.proofs.Finishes.{none_left, had_all, finished_at_finish}
-use Rattle.demands.proofs.OneDesk.{pieces_distinct, desk_hours, urgency, had_here, waits_linked, raised_moments_lem, desk_obeys}
+use Rattle.demands.proofs.OneDesk.{pieces_distinct, desk_hours, urgency, had_here, waits_linked, raised_moments_lem}
+use Rattle.demands.proofs.OneDesk.{desk_obeys}
 
 module _ (J : Job) (sound : Sound J) (free : ring_piece J ≡ none) (d : ℕ) where
   some-work : (i : ℕ) → Mem i (desk_pieces J d) → 1 ≤ duration J i
@@ -106,7 +107,8 @@ module _ (J : Job) (sound : Sound J) (free : ring_piece J ≡ none) (d : ℕ) wh
           let c = (worked_chosen J d t i e).waits in desk_pieces_mem J d i c.inside c.at_desk
 
       lin : (t i : ℕ) → worked J d t ≡ some i
-          → Lin itself (ready J) (raised J) (duration J) (is_open J d) (open_end J d) (sooner J) (linked J) (desk_pieces J d) (worked J d) t i
+          → Lin itself (ready J) (raised J) (duration J) (is_open J d) (open_end J d) (sooner J) (linked J)
+          (desk_pieces J d) (worked J d) t i
       lin t i e = waits_linked J sound free d t i (chosen_here t i e) (worked_chosen J d t i e).waits
 
 -- The slots before moment t in which a plan works on a piece of desk d with latest moment at most x.

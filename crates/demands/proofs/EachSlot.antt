@@ -14,7 +14,8 @@ use Rattle.rules.specs.Tables.{Sound}
 use Rattle.rules.specs.Urgency.{is_ready, work_at, worked, finish}
 use Rattle.rules.specs.declared.Link.{Link}
 use Rattle.laws.proofs.Sound.{into_link, link_fit}
-use Rattle.laws.proofs.Slots.{Waits, choice-none, chosen_choice, resting_choice, worked_chosen, ready_release, ready_before, ready_intro, handed_fact, fact_handed}
+use Rattle.laws.proofs.Slots.{Waits, choice-none, chosen_choice, resting_choice, worked_chosen, ready_release}
+use Rattle.laws.proofs.Slots.{ready_before, ready_intro, handed_fact, fact_handed}
 use Rattle.laws.proofs.Hours.{always_open}
 use Rattle.laws.proofs.Progress.{left_at}
 use Rattle.demands.specs.Accepted.{AcceptedAs}

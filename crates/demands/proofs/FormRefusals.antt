@@ -14,7 +14,8 @@ use Rattle.rules.specs.File.{of_piece, of_link}
 use Rattle.rules.specs.Reading.{piece_fault, link_fault, order_fault, unless_fault, and_then, read_job}
 use Rattle.rules.specs.Judgement.{then_judge}
 use Rattle.rules.specs.Writing.{file_of}
-use Rattle.rules.specs.Form.{form_job, offers, offer_fault, take_all, unless_cut, unless_no_room, form_outcome, write_outcome, write_answer_of, write_buffer_of, write_answer, write_buffer}
+use Rattle.rules.specs.Form.{form_job, offers, offer_fault, take_all, unless_cut, unless_no_room, form_outcome}
+use Rattle.rules.specs.Form.{write_outcome, write_answer_of, write_buffer_of, write_answer, write_buffer}
 use Rattle.rules.specs.declared.Piece.{Piece}
 use Rattle.rules.specs.declared.Link.{Link}
 use Rattle.rules.specs.declared.Item.{Item}

@@ -23,7 +23,8 @@ use Rattle.laws.proofs.Latest.{before_is_sooner}
 use Rattle.laws.proofs.Delay.{delay_own_desk}
 use Rattle.laws.proofs.Hours.{always_open, end_is}
 use Rattle.laws.proofs.Raised as R
-use Rattle.laws.proofs.Slots.{Waits, by_choice, mem_desk_pieces, desk_pieces_mem, worked_chosen, choice-none, ready_release, ready_before, ready_intro, handed_fact, fact_handed}
+use Rattle.laws.proofs.Slots.{Waits, by_choice, mem_desk_pieces, desk_pieces_mem, worked_chosen, choice-none}
+use Rattle.laws.proofs.Slots.{ready_release, ready_before, ready_intro, handed_fact, fact_handed}
 use Rattle.laws.proofs.Progress.{left_at, finish_past}
 use Rattle.theory.proofs.Hours.{Hours, hours_always}
 use Rattle.theory.proofs.Lists.{Distinct}

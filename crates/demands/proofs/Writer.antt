@@ -15,7 +15,8 @@ use Rattle.rules.specs.Tables.{Sound}
 use Rattle.rules.specs.Judgement.{then_judge}
 use Rattle.rules.specs.Writing.{file_of}
 use Rattle.rules.specs.Plan.{at_front}
-use Rattle.rules.specs.Form.{form_job, offers, take_all, unless_cut, unless_no_room, form_outcome, write_outcome, write_answer_of, write_buffer_of, write_answer, write_buffer}
+use Rattle.rules.specs.Form.{form_job, offers, take_all, unless_cut, unless_no_room, form_outcome, write_outcome}
+use Rattle.rules.specs.Form.{write_answer_of, write_buffer_of, write_answer, write_buffer}
 use Rattle.laws.proofs.Words.{by_test, when_true, when_false}
 use Rattle.laws.proofs.Reading.{accepted_inj}
 use Rattle.laws.proofs.Offers.{taken_whole, taken_sound, sound_taken}

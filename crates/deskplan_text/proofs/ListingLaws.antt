@@ -15,7 +15,8 @@ use Rattle.rules.specs.Moments.{latest}
 use Rattle.rules.specs.Urgency.{start, finish}
 use Rattle.rules.specs.Runs.{Run, runs}
 use Rattle.rules.specs.Judgement.{file_outcome}
-use Rattle.rules.specs.Listing.{piece_line, run_line, total_line, refused_line, run_lines, plan_listing, listing_of, listing}
+use Rattle.rules.specs.Listing.{piece_line, run_line, total_line, refused_line, run_lines, plan_listing, listing_of}
+use Rattle.rules.specs.Listing.{listing}
 use Rattle.rules.specs.Plan.{run_records, at_front, plan_numbers, lateness}
 use Rattle.laws.proofs.Words.{by_test, map_same, mem_below, when_true, when_false}
 use Rattle.laws.proofs.Joined.{joined_twice, length-joined, map_twice}
@@ -27,7 +28,8 @@ use Rattle.finished.specs.Finished.{Finished}
 use Rattle.records.proofs.Front.{stored_front}
 use Rattle.finished.proofs.FinishedLaws.{few_pieces, count_here, end_here, worst_here}
 use Rattle.texts.specs.Puts.{Puts}
-use Rattle.lines.specs.Lines.{piece_text, run_text, total_text, refused_text, piece_line_in, piece_lines_in, desk_lines_in, run_lines_in}
+use Rattle.lines.specs.Lines.{piece_text, run_text, total_text, refused_text, piece_line_in, piece_lines_in}
+use Rattle.lines.specs.Lines.{desk_lines_in, run_lines_in}
 use Rattle.lines.proofs.LineLaws.{run_most, total_most, refused_most}
 use Rattle.texts.proofs.TextLaws.{puts_then}
 use Rattle.listing.proofs.PageLaws.{pieces_most}
@@ -102,13 +104,15 @@ desk_most d (r ∷ rs) =
     omega (arith, length-append (run_line d r) (joined (map (run_line d) rs)))
 
 module _ (count : ℕ) (desks pieces froms untils : List ℕ) where
-  in_desks : length (run_lines_in 32 count desks pieces froms untils) ≡ sum (map (λ d. length (desk_lines_in count desks pieces froms untils d)) (below 32))
+  in_desks : length (run_lines_in 32 count desks pieces froms untils)
+      ≡ sum (map (λ d. length (desk_lines_in count desks pieces froms untils d)) (below 32))
   unfolding run_lines_in
   in_desks =
       length-joined (map (desk_lines_in count desks pieces froms untils) (below 32))
       ∙ ap sum (map_twice (desk_lines_in count desks pieces froms untils) length (below 32))
 
-  desk_lines_most : (d : ℕ) → length (desk_lines_in count desks pieces froms untils d) ≤ 141 * length (logged_runs desks pieces froms untils count d)
+  desk_lines_most : (d : ℕ) → length (desk_lines_in count desks pieces froms untils d) ≤ 141 * length
+      (logged_runs desks pieces froms untils count d)
   unfolding desk_lines_in
   desk_lines_most d = desk_most d (logged_runs desks pieces froms untils count d)
 
@@ -118,7 +122,8 @@ unfolding piece_line lateness piece_text
 piece_line_is J i = refl
 
 total_line_is : (J : Job)
-    → total_text (piece_count J) (length (run_records J)) (greatest 0 (map (finish J) (below (piece_count J)))) (worst_of (map (lateness J) (below (piece_count J))))
+    → total_text (piece_count J) (length (run_records J)) (greatest 0 (map (finish J) (below (piece_count J))))
+    (worst_of (map (lateness J) (below (piece_count J))))
     ≡ total_line (plan_numbers J)
 unfolding total_text total_line plan_numbers
 total_line_is J = refl
@@ -143,7 +148,8 @@ module _ {J : Job} {n : ℕ} {desks starts finishes : List ℕ} {latests : List 
       ∙ ap joined (map_same (λ d. joined (run_lines J d)) (desk_lines_in count desks pieces froms untils) (below 32)
       (λ d k. ap (λ rs. joined (map (run_line d) rs)) (sym (F.runs_are d (mem_below 32 d k)))))
 
-  total_here : total_text n count (greatest 0 (map (λ i. get_or finishes i 0) (below n))) (worst_of (map (lateness_in finishes latests) (below n)))
+  total_here : total_text n count (greatest 0 (map (λ i. get_or finishes i 0) (below n)))
+      (worst_of (map (lateness_in finishes latests) (below n)))
       ≡ total_line (plan_numbers J)
   total_here =
       (λ k. total_text (sym F.pieces_are k) (sym (count_here F) k)
@@ -163,9 +169,11 @@ module _ {J : Job} {n : ℕ} {desks starts finishes : List ℕ} {latests : List 
   -- At most 141 bytes for each run of the log.
   pub runs_most : length (run_lines_in 32 count desks pieces froms untils) ≤ 141 * count
   runs_most =
-      let each : length (run_lines_in 32 count desks pieces froms untils) ≤ 141 * sum (map (λ d. length (logged_runs desks pieces froms untils count d)) (below 32)) =
+      let each : length (run_lines_in 32 count desks pieces froms untils) ≤ 141 * sum
+      (map (λ d. length (logged_runs desks pieces froms untils count d)) (below 32)) =
       rw (in_desks count desks pieces froms untils)
-      (sum_most (λ d. length (desk_lines_in count desks pieces froms untils d)) (λ d. length (logged_runs desks pieces froms untils count d)) 141
+      (sum_most (λ d. length (desk_lines_in count desks pieces froms untils d))
+      (λ d. length (logged_runs desks pieces froms untils count d)) 141
       (desk_lines_most count desks pieces froms untils) (below 32)) in
       omega (
         arith,
@@ -191,14 +199,17 @@ module _ {J : Job} {n : ℕ} {desks starts finishes : List ℕ} {latests : List 
         pieces_most desks starts finishes latests n,
         total_most n count e w,
         length-append (piece_lines_in n desks starts finishes latests) (run_lines_in 32 count desks pieces froms untils),
-        length-append (piece_lines_in n desks starts finishes latests ++ run_lines_in 32 count desks pieces froms untils) (total_text n count e w),
+        length-append (piece_lines_in n desks starts finishes latests ++ run_lines_in 32 count desks pieces froms
+            untils) (total_text n count e w),
       )
 
 -- The pages one behind the other.
 module _ (n count : ℕ) (desks starts finishes : List ℕ) (latests : List ℤ) (pieces froms untils : List ℕ) where
   pub pages_put : {text mid more after : List ℕ} {next end r e : ℕ} {w : ℤ}
-      → Puts text 0 (piece_lines_in n desks starts finishes latests) mid next → Puts mid next (run_lines_in 32 count desks pieces froms untils) more end
+      → Puts text 0 (piece_lines_in n desks starts finishes latests) mid next
+      → Puts mid next (run_lines_in 32 count desks pieces froms untils) more end
       → e ≡ greatest 0 (map (λ i. get_or finishes i 0) (below n)) → w ≡ worst_of (map (lateness_in finishes latests) (below n))
-      → Puts more end (total_text n count e w) after r → Puts text 0 (pages_in n count desks starts finishes latests pieces froms untils) after r
+      → Puts more end (total_text n count e w) after r → Puts text 0
+      (pages_in n count desks starts finishes latests pieces froms untils) after r
   unfolding pages_in
   pages_put p q is worst t = puts_then (puts_then p q) (rw (is, worst) at t)

@@ -11,7 +11,8 @@ use Rattle.rules.specs.Job.{Job, Outcome, refused, accepted, empty_job, with_pie
 use Rattle.rules.specs.Reading.{unless_fault, and_then}
 use Rattle.rules.specs.Judgement.{then_judge}
 use Rattle.rules.specs.Writing.{file_of}
-use Rattle.rules.specs.Form.{piece_row, link_row, form_job, offers, offer_fault, take_all, unless_cut, unless_no_room, form_outcome, write_outcome, write_answer_of, write_answer}
+use Rattle.rules.specs.Form.{piece_row, link_row, form_job, offers, offer_fault, take_all, unless_cut, unless_no_room}
+use Rattle.rules.specs.Form.{form_outcome, write_outcome, write_answer_of, write_answer}
 use Rattle.rules.specs.declared.Piece.{Piece}
 use Rattle.rules.specs.declared.Link.{Link}
 use Rattle.rules.specs.declared.Item.{Item}

@@ -20,7 +20,9 @@ use Rattle.rules.specs.Rings.{ring_piece}
 use Rattle.rules.specs.Tables.{Sound}
 use Rattle.rules.specs.Urgency.{is_finished, is_ready, work_at, worked, horizon}
 use Rattle.rules.specs.declared.Link.{Link}
-use Rattle.laws.proofs.Words.{by_test, true_or_false, every_mem, every_intro, every_fails, mem_below, below_mem, map_same, sum_le, sum_gap, sum_same, sum_mem, length-below, greatest_of, greatest_within, when_true, when_false}
+use Rattle.laws.proofs.Words.{by_test, true_or_false, every_mem, every_intro, every_fails, mem_below, below_mem}
+use Rattle.laws.proofs.Words.{map_same, sum_le, sum_gap, sum_same, sum_mem, length-below, greatest_of}
+use Rattle.laws.proofs.Words.{greatest_within, when_true, when_false}
 use Rattle.laws.proofs.Sound.{place_mem, into_link, link_fit, fits, along_before}
 use Rattle.laws.proofs.Delay.{delay_most}
 use Rattle.laws.proofs.Hours.{always_open}

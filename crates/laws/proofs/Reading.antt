@@ -8,9 +8,13 @@ use borrow.Author.Tests.{ltb-true, ltb-false, leb-false}
 use lib.Dec.{ltb, leb, eqb}
 use lib.ListN.{length, get_or, length-append, get_or-append}
 use lib.Seq.{get_or-append_seam}
-use Rattle.rules.specs.Job.{Job, Outcome, refused, accepted, empty_job, with_piece, with_link, piece_count, piece, no_piece}
-use Rattle.rules.specs.File.{byte_at, whole_records, record_at, Kind, of_piece, of_link, unknown, kind_of, as_piece, as_link}
-use Rattle.rules.specs.Reading.{piece_fault, link_fault, kind_fault, order_fault, value_fault, first_fault, record_fault, contents, unless_fault, judged, at_end, item_at, and_then, read_from, read_job}
+use Rattle.rules.specs.Job.{Job, Outcome, refused, accepted, empty_job, with_piece, with_link, piece_count, piece}
+use Rattle.rules.specs.Job.{no_piece}
+use Rattle.rules.specs.File.{byte_at, whole_records, record_at, Kind, of_piece, of_link, unknown, kind_of, as_piece}
+use Rattle.rules.specs.File.{as_link}
+use Rattle.rules.specs.Reading.{piece_fault, link_fault, kind_fault, order_fault, value_fault, first_fault}
+use Rattle.rules.specs.Reading.{record_fault, contents, unless_fault, judged, at_end, item_at, and_then, read_from}
+use Rattle.rules.specs.Reading.{read_job}
 use Rattle.rules.specs.Tables.{Sound, no_link}
 use Rattle.rules.specs.declared.Piece.{Piece}
 use Rattle.rules.specs.declared.Link.{Link}

@@ -15,7 +15,9 @@ use lib.Seq.{take_at, drop_at, drop-drop}
 use Rattle.rules.specs.Words.{when, one_of, joined}
 use Rattle.rules.specs.Job.{Job, accepted, empty_job, piece_count, no_piece}
 use Rattle.rules.specs.File.{whole_records, record_at, of_piece, of_link, kind_of, as_piece, as_link}
-use Rattle.rules.specs.Reading.{piece_fault, link_fault, first_fault, kind_fault, order_fault, value_fault, zero_fault, record_fault, contents, unless_fault, judged, at_end, item_at, and_then, read_from, read_job}
+use Rattle.rules.specs.Reading.{piece_fault, link_fault, first_fault, kind_fault, order_fault, value_fault}
+use Rattle.rules.specs.Reading.{zero_fault, record_fault, contents, unless_fault, judged, at_end, item_at, and_then}
+use Rattle.rules.specs.Reading.{read_from, read_job}
 use Rattle.rules.specs.Tables.{Sound, no_link}
 use Rattle.rules.specs.Bytes.{half, word, plan_record}
 use Rattle.rules.specs.Writing.{piece_record, link_record, file_of}
@@ -65,7 +67,8 @@ no_further (suc f) = refl
 
 -- The record is judged as the offer is.
 made_judged : (J : Job) (k : ℕ) (x : Item) → Fit x → judged J k (made x) ≡ unless_fault (offer_fault J x) k x
-unfolding judged record_fault contents value_fault zero_fault kind_of kind_fault first_fault offer_fault piece_record link_record plan_record half word one_of when
+unfolding judged record_fault contents value_fault zero_fault kind_of kind_fault first_fault offer_fault piece_record
+    link_record plan_record half word one_of when
 made_judged J k (Work p) h =
     let back : as_piece (piece_record p) ≡ p = piece_back p h.duration_held h.release_held h.due_held in
     ap (λ q. unless_fault (first_fault (order_fault of_piece J) (first_fault (piece_fault q) 0)) k (Work q)) back

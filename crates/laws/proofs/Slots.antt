@@ -15,9 +15,11 @@ use Rattle.rules.specs.Words.{when, every, below, is_it}
 use Rattle.rules.specs.Job.{Job, piece_count, piece, desk, duration, desk_pieces, links_into, no_piece}
 use Rattle.rules.specs.Hours.{is_open}
 use Rattle.rules.specs.Moments.{delay, sooner}
-use Rattle.rules.specs.Urgency.{Progress, untouched, progress, is_finished, handed_over, is_ready, waiting, preferred, most_urgent, choice, worked_on, after_slot, work_at, worked}
+use Rattle.rules.specs.Urgency.{Progress, untouched, progress, is_finished, handed_over, is_ready, waiting, preferred}
+use Rattle.rules.specs.Urgency.{most_urgent, choice, worked_on, after_slot, work_at, worked}
 use Rattle.rules.specs.declared.Link.{Link}
-use Rattle.laws.proofs.Words.{by_test, true_or_false, and_true, and_intro, mem_keep, keep_mem, every_mem, every_intro, every_fails, mem_below, below_mem, get_or-below, length-below, when_true, when_false}
+use Rattle.laws.proofs.Words.{by_test, true_or_false, and_true, and_intro, mem_keep, keep_mem, every_mem, every_intro}
+use Rattle.laws.proofs.Words.{every_fails, mem_below, below_mem, get_or-below, length-below, when_true, when_false}
 use Rattle.laws.proofs.Order.{sooner_asym, sooner_trans, sooner_total}
 
 pub none_or_some : {P : Type 0} {i : ℕ} → none ≡ some i → P

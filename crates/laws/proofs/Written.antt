@@ -12,8 +12,10 @@ use lib.ListN.{length, get_or, take, drop, length-drop}
 use lib.Seq.{length-take-le, take_all, take-add, get_or-take, get_or-drop}
 use Rattle.rules.specs.Words.{when, joined}
 use Rattle.rules.specs.Job.{Job, Outcome, refused, accepted, empty_job, with_piece, with_link}
-use Rattle.rules.specs.File.{byte_at, whole_records, record_at, Kind, of_piece, of_link, unknown, kind_of, as_piece, as_link, zero_places}
-use Rattle.rules.specs.Reading.{first_fault, kind_fault, order_fault, value_fault, zero_fault, record_fault, contents, judged, at_end, item_at, and_then, read_from, read_job}
+use Rattle.rules.specs.File.{byte_at, whole_records, record_at, Kind, of_piece, of_link, unknown, kind_of, as_piece}
+use Rattle.rules.specs.File.{as_link, zero_places}
+use Rattle.rules.specs.Reading.{first_fault, kind_fault, order_fault, value_fault, zero_fault, record_fault, contents}
+use Rattle.rules.specs.Reading.{judged, at_end, item_at, and_then, read_from, read_job}
 use Rattle.rules.specs.Writing.{piece_record, link_record, file_of}
 use Rattle.rules.specs.declared.Piece.{Piece}
 use Rattle.rules.specs.declared.Link.{Link}

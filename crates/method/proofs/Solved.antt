@@ -11,7 +11,8 @@ use native.Mathlib.Omega.{arith}
 use lib.ListN.{length}
 use Rattle.rules.specs.Words.{when, or_else, greatest}
 use Rattle.rules.specs.Entries.{Entry}
-use Rattle.rules.specs.Blocks.{Block, in_order, block_end, cut_in_order, cut, set_aside, others, is_slot_of, in_block, in_blocks, set_worked}
+use Rattle.rules.specs.Blocks.{Block, in_order, block_end, cut_in_order, cut, set_aside, others, is_slot_of, in_block}
+use Rattle.rules.specs.Blocks.{in_blocks, set_worked}
 use Rattle.laws.proofs.Words.{by_test, true_or_false, when_true, when_false, greatest_of}
 use Rattle.theory.proofs.Cases.{by_le}
 use Rattle.theory.proofs.Hours.{Hours}
@@ -23,7 +24,8 @@ use Rattle.theory.proofs.SetAside.{LinksAhead, set_aside_lem, others_shorter, me
 use Rattle.theory.proofs.BlockShape.{BlocksRise, count, cut-rises, cut_count}
 use Rattle.method.specs.Board.{Stretch, give, holder}
 use Rattle.method.specs.Method.{around, solved}
-use Rattle.method.proofs.Held.{Tidy, Ends, give_tidy, give-holder, between, in_between, before_between, after_between, shut_between}
+use Rattle.method.proofs.Held.{Tidy, Ends, give_tidy, give-holder, between, in_between, before_between, after_between}
+use Rattle.method.proofs.Held.{shut_between}
 use Rattle.method.proofs.Held.{between_facts, given, given_out, given_same}
 use Rattle.method.proofs.Sets.{Good, in_order_same, sorted_good, good_keep}
 use Rattle.method.proofs.Parts.{Fine, cut_over, cut_fine, cut_floor}

@@ -21,7 +21,8 @@ use Rattle.rules.specs.Entries.{raised}
 use Rattle.rules.specs.declared.Link.{Link}
 use Rattle.laws.proofs.Words.{when_true, when_false}
 use Rattle.laws.proofs.Sound.{link_fit, into_link, link_into}
-use Rattle.laws.proofs.Raised.{elsewhere_link, link_elsewhere, own_link, link_own, ready_release, ready_after_lem, ready_least, raised-ready, raised_after, raised_least}
+use Rattle.laws.proofs.Raised.{elsewhere_link, link_elsewhere, own_link, link_own, ready_release, ready_after_lem}
+use Rattle.laws.proofs.Raised.{ready_least, raised-ready, raised_after, raised_least}
 use Rattle.theory.proofs.Cases.{by_eq}
 use Rattle.demands.proofs.Finishes.{finish_most}
 use Rattle.links.specs.Chains.{Chained}

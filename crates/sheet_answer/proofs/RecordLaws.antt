@@ -51,10 +51,12 @@ module _ (kind d : ℕ) (numbers firsts seconds : List ℕ) where
 
   -- One record more, as `put_record` stores it.
   pub one_put : (b buf buf' : List ℕ) (at k : ℕ) → buf ≡ sets b at (records_in kind d numbers firsts seconds k)
-      → buf' ≡ sets buf (at + 16 * k) (plan_record kind d (get_or numbers k 0) (word (get_or firsts k 0)) (word (get_or seconds k 0)) (word 0))
+      → buf' ≡ sets buf (at + 16 * k) (plan_record kind d (get_or numbers k 0) (word (get_or firsts k 0))
+      (word (get_or seconds k 0)) (word 0))
       → (length buf' ≡ length buf) × (buf' ≡ sets b at (records_in kind d numbers firsts seconds (k + 1)))
   one_put b buf buf' at k before put = (
-    ap length put ∙ length-sets buf (at + 16 * k) (plan_record kind d (get_or numbers k 0) (word (get_or firsts k 0)) (word (get_or seconds k 0)) (word 0)),
+    ap length put ∙ length-sets buf (at + 16 * k) (plan_record kind d (get_or numbers k 0) (word (get_or firsts k 0))
+        (word (get_or seconds k 0)) (word 0)),
     put ∙ ap (sets buf (at + 16 * k)) (sym (record_is k))
         ∙ ap (λ x. sets x (at + 16 * k) (record_in kind d numbers firsts seconds k)) before ∙ records_more b at k,
   )

@@ -18,9 +18,11 @@ use Rattle.laws.proofs.Sound.{into_link, link_fit}
 use Rattle.laws.proofs.Hours.{always_open}
 use Rattle.laws.proofs.Progress.{left_falls, left_whole, finished_for_good}
 use Rattle.laws.proofs.Order.{sooner_asym}
-use Rattle.laws.proofs.Slots.{Waits, by_choice, choice-none, worked_chosen, ready_release, ready_before, ready_intro, handed_fact, fact_handed, work_start, work_off, by_work, none_or_some, some_inj}
+use Rattle.laws.proofs.Slots.{Waits, by_choice, choice-none, worked_chosen, ready_release, ready_before, ready_intro}
+use Rattle.laws.proofs.Slots.{handed_fact, fact_handed, work_start, work_off, by_work, none_or_some, some_inj}
 use Rattle.slots.specs.Stretch.{at}
-use Rattle.slots.specs.Growth.{goes_on_at, fresh_run, longer, grown, after_turn, runs_until, last_piece, last_end, last_on}
+use Rattle.slots.specs.Growth.{goes_on_at, fresh_run, longer, grown, after_turn, runs_until, last_piece, last_end}
+use Rattle.slots.specs.Growth.{last_on}
 use Rattle.slots.proofs.Growth.{by_last, goes_on_lem, grown_on, grown_anew}
 
 pub last_piece_lem : (A : List Run) (r : Run) → last_piece (A ++ (r ∷ [])) ≡ some r.piece

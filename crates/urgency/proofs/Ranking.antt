@@ -26,7 +26,12 @@ unfolding key_of
 raised (pos k) i h = record { high = k + 524288; is = refl; small = omega arith; key = refl }
 raised (negsuc k) i h =
     let e : ltb 524288 (suc k) ≡ _ = le-ltb 524288 (suc k) (omega arith) in
-    record { high = 524287 - k; is = rw e (ap pos (let q : 524288 - suc k ≡ 524287 - k = omega arith in q)); small = omega arith; key = refl }
+    record {
+      high = 524287 - k;
+      is = rw e (ap pos (let q : 524288 - suc k ≡ 524287 - k = omega arith in q));
+      small = omega arith;
+      key = refl;
+    }
 
 pub keyed_none : (latests : List ℤ) (keys : List ℕ) → length keys ≡ 256 → Keyed 0 latests keys
 keyed_none latests keys p = record { sized = p; each = λ i h. absurd (omega arith) }

@@ -41,8 +41,8 @@ fn begin(
     }
 }
 
-// The plan of n pieces and m links, whose keys are known and whose links are chained. The keys say all that urgency asks of the dues; the job of the
-// contract has them, so they are lent too.
+// The plan of n pieces and m links, whose keys are known and whose links are chained. The keys say all that urgency
+// asks of the dues; the job of the contract has them, so they are lent too.
 fn plan_by(
     n: usize,
     m: usize,

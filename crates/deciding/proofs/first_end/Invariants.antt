@@ -8,7 +8,8 @@ use Rattle.deciding.proofs.first_end.Given as goal
 
 abbrev pub invariant-loop-q : goal.invariant-loop-q
 invariant-loop-q l =
-    (l.q ≤ l.count) × (l.chosen ≡ named l.best l.busy l.q l.initial.chosen) × (l.t + l.slots ≡ end_next l.t l.left (λ k. piece_of (whom l.best l.busy k)) l.q l.next)
+    (l.q ≤ l.count) × (l.chosen ≡ named l.best l.busy l.q l.initial.chosen) ×
+    (l.t + l.slots ≡ end_next l.t l.left (λ k. piece_of (whom l.best l.busy k)) l.q l.next)
 
 abbrev pub decreases-loop-q : goal.decreases-loop-q
 decreases-loop-q l = l.count - l.q

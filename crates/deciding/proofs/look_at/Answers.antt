@@ -35,11 +35,13 @@ desk_in c = c.requires.lookable.desk_most c.loop-k.k c.loop-k-test.true
 
 pub loop-k-preserved-then-t-ready : goal.loop-k-preserved-then-t-ready
 loop-k-preserved-then-t-ready c =
+    let start = (goal.at.loop-k-preserved-then-t-ready c).Start in
+    let turn = (goal.at.loop-k-preserved-then-t-ready c).In-loop-k in
     let l = c.loop-k in
     let table = c.args.table.now in (
       omega arith,
-      λ left. looked_later (seen (goal.at.loop-k-preserved-then-t-ready c).Start left) (Among table l.k) (Among table (l.k + 1))
-          (among_more table l.k) (piece (goal.at.loop-k-preserved-then-t-ready c).In-loop-k) (among_last table l.k) (among_split table l.k)
+      λ left. looked_later (seen start left) (Among table l.k) (Among table (l.k + 1))
+          (among_more table l.k) (piece turn) (among_last table l.k) (among_split table l.k)
           l.count l.best l.busy l.next c.lesser-next.result c.if-t-ready.true c.lesser-next.ensures
           (l.invariant.1 left),
     )
@@ -53,12 +55,14 @@ offer-count-requires c =
 
 pub loop-k-preserved : goal.loop-k-preserved
 loop-k-preserved c =
+    let start = (goal.at.loop-k-preserved c).Start in
+    let turn = (goal.at.loop-k-preserved c).In-loop-k in
     let l = c.loop-k in
     let table = c.args.table.now in (
       omega arith,
-      λ left. looked_offered (seen (goal.at.loop-k-preserved c).Start left) (Among table l.k) (Among table (l.k + 1))
-          (among_more table l.k) (piece (goal.at.loop-k-preserved c).In-loop-k) (among_last table l.k) (among_split table l.k)
-          (get_or c.args.desks.now (piece (goal.at.loop-k-preserved c).In-loop-k) 0) (desk_in (goal.at.loop-k-preserved c).In-loop-k) refl c.if-t-ready.false
+      λ left. looked_offered (seen start left) (Among table l.k) (Among table (l.k + 1))
+          (among_more table l.k) (piece turn) (among_last table l.k) (among_split table l.k)
+          (get_or c.args.desks.now (piece turn) 0) (desk_in turn) refl c.if-t-ready.false
           (λ j m. rw m.2 at (c.requires.lookable.own_key m.0 (omega (arith, m.1, c.loop-k-test.true))))
           l.count l.best l.busy l.next (l.invariant.1 left) _ c.offer-count.ensures,
     )

@@ -12,7 +12,9 @@ use Rattle.deciding.specs.Look.{picks, offered}
 use Rattle.deciding.proofs.offer.Goals as goal
 
 -- The tables and the count that the definition says.
-picked : (key d count : ℕ) (best busy : List ℕ) (lesser r : ℕ) → lesser ≡ min (get_or best d 0) key → r ≡ when (eqb (get_or best d 0) no_key) (count + 1) count → picks r (set best d lesser) (set busy count d) ≡ offered key d (picks count best busy)
+picked : (key d count : ℕ) (best busy : List ℕ) (lesser r : ℕ) → lesser ≡ min (get_or best d 0) key → r ≡ when
+    (eqb (get_or best d 0) no_key) (count + 1) count → picks r (set best d lesser) (set busy count d) ≡ offered key d
+    (picks count best busy)
 unfolding offered
 picked key d count best busy lesser r e q = rw (e, q)
 

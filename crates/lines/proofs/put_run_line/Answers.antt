@@ -9,4 +9,5 @@ unfolding run_text letters field
 returns c =
     let a = c.args in
     then_newline
-    (then_field (then_field (then_field (then_field (no_field a.text.now a.at) c.put_field-piece_at.ensures) c.put_field-from_at.ensures) c.put_field-until_at.ensures) c.put_field-end.ensures)
+    (then_field (then_field (then_field (then_field (no_field a.text.now a.at) c.put_field-piece_at.ensures)
+    c.put_field-from_at.ensures) c.put_field-until_at.ensures) c.put_field-end.ensures)

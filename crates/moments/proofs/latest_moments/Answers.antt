@@ -38,22 +38,27 @@ module _ (c : In-loop-p) where
   )
 
 pub bounds-order-p : goal.bounds-order-p
-bounds-order-p c = omega (arith, place_in (goal.at.bounds-order-p c).In-loop-p, few (goal.at.bounds-order-p c).In-loop-p)
+bounds-order-p c =
+    let turn = (goal.at.bounds-order-p c).In-loop-p in
+    omega (arith, place_in turn, few turn)
 
 pub piece_moment-requires : goal.piece_moment-requires
 piece_moment-requires c =
-    turn_asks _ _ _ _ _ _ _ _ _ (asked (goal.at.piece_moment-requires c).In-loop-p) _ (place_in (goal.at.piece_moment-requires c).In-loop-p) _ (onward (goal.at.piece_moment-requires c).In-loop-p (asked (goal.at.piece_moment-requires c).In-loop-p))
+    let turn = (goal.at.piece_moment-requires c).In-loop-p in
+    turn_asks _ _ _ _ _ _ _ _ _ (asked turn) _ (place_in turn) _ (onward turn (asked turn))
 
 pub bounds-moments-i : goal.bounds-moments-i
 bounds-moments-i c = piece_in (goal.at.bounds-moments-i c).In-loop-p
 
 pub loop-p-preserved : goal.loop-p-preserved
 loop-p-preserved c =
+    let turn = (goal.at.loop-p-preserved c).In-loop-p in
     let l = c.loop-p in
     let e = to_z-of_z {w = w32} {z = c.piece_moment.result} (record { sfits = c.piece_moment.type_inv }) in (
       omega (arith, l.invariant.0),
       length-set l.moments _ _ ∙ l.invariant.1,
-      λ T. rw e (turn_done _ _ _ _ _ _ _ _ _ T _ (place_in (goal.at.loop-p-preserved c).In-loop-p) _ (onward (goal.at.loop-p-preserved c).In-loop-p T) _ c.piece_moment.ensures l.invariant.1),
+      λ T. rw e (turn_done _ _ _ _ _ _ _ _ _ T _ (place_in turn) _ (onward turn T) _ c.piece_moment.ensures
+          l.invariant.1),
     )
 
 pub returns : goal.returns

@@ -11,7 +11,9 @@ use Rattle.moments.proofs.left_by.Goals.{After-takes_off}
 use Rattle.moments.proofs.left_by.Goals as goal
 
 -- What is computed is what the definition says.
-computed : (c : After-takes_off) → let a = c.args in (to_z w32 (of_z w32 (get_or a.moments.now (get_or a.afters.now a.k 0) (pos 0))) -ℤ to_z w32 (of_z w32 c.takes_off.result)) ≡ left_by a.desks.now a.durations.now a.afters.now a.handovers.now a.moments.now a.i a.k
+computed : (c : After-takes_off) → let a = c.args in (to_z w32 (of_z w32
+    (get_or a.moments.now (get_or a.afters.now a.k 0) (pos 0))) -ℤ to_z w32 (of_z w32 c.takes_off.result)) ≡ left_by
+    a.desks.now a.durations.now a.afters.now a.handovers.now a.moments.now a.i a.k
 unfolding left_by
 computed c =
     rw (
@@ -22,4 +24,5 @@ computed c =
 
 pub returns : goal.returns
 returns c =
-    to_z-of_z {w = w32} {z = c.less.result} (record { sfits = c.less.type_inv }) ∙ c.less.ensures ∙ computed (goal.at.returns c).After-takes_off
+    let after = (goal.at.returns c).After-takes_off in
+    to_z-of_z {w = w32} {z = c.less.result} (record { sfits = c.less.type_inv }) ∙ c.less.ensures ∙ computed after

@@ -55,11 +55,13 @@ left_by-requires c =
     p.leaves _ l.0 l.1
 
 -- The least so far with what the link leaves.
-lessened : (c : After-lesser-least) → to_z w32 (of_z w32 c.lesser-least.result) ≡ lesser_z (to_z w32 c.loop-at.least-bits) ((let a = c.args in
+lessened : (c : After-lesser-least) → to_z w32 (of_z w32 c.lesser-least.result) ≡ lesser_z
+    (to_z w32 c.loop-at.least-bits) ((let a = c.args in
     left_by a.desks.now a.durations.now a.afters.now a.handovers.now a.moments.now a.i) (c.loop-at.at - 1))
 lessened c =
     let l = c.left_by in
-    to_z-of_z {w = w32} {z = c.lesser-least.result} (record { sfits = c.lesser-least.type_inv }) ∙ c.lesser-least.ensures
+    to_z-of_z {w = w32} {z = c.lesser-least.result} (record { sfits = c.lesser-least.type_inv }) ∙
+    c.lesser-least.ensures
     ∙ ap (lesser_z (to_z w32 c.loop-at.least-bits))
     (to_z-of_z {w = w32} {z = l.result} (record { sfits = l.type_inv }) ∙ l.ensures)
 
@@ -76,11 +78,14 @@ loop-at-smaller c =
 
 pub loop-at-preserved : goal.loop-at-preserved
 unfolding least_left
-loop-at-preserved c = λ N one.
+loop-at-preserved c =
+    let turn = (goal.at.loop-at-preserved c).In-loop-at in
+    let after = (goal.at.loop-at-preserved c).After-lesser-least in
+    λ N one.
     record {
       bound = c.loop-at.at - 1;
-      on_chain = onward (goal.at.loop-at-preserved c).In-loop-at N one;
-      same_least = rw (lessened (goal.at.loop-at-preserved c).After-lesser-least) (rw (first (goal.at.loop-at-preserved c).In-loop-at N one) at (walk (goal.at.loop-at-preserved c).In-loop-at N one).same_least);
+      on_chain = onward turn N one;
+      same_least = rw (lessened after) (rw (first turn N one) at (walk turn N one).same_least);
     }
 
 pub returns : goal.returns

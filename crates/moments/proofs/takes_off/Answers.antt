@@ -13,7 +13,8 @@ use Rattle.moments.proofs.takes_off.Goals.{After-delay}
 use Rattle.moments.proofs.takes_off.Goals as goal
 
 -- What is added is what the definition says.
-total : (c : After-delay) → let a = c.args in c.wide.result + c.delay.result ≡ takes_off_in a.desks.now a.durations.now a.afters.now a.handovers.now a.i a.k
+total : (c : After-delay) → let a = c.args in c.wide.result + c.delay.result ≡ takes_off_in a.desks.now
+    a.durations.now a.afters.now a.handovers.now a.i a.k
 unfolding takes_off_in
 total c =
     let a = c.args in

@@ -23,7 +23,8 @@ invariant-loop-left l =
       handovers = l.handovers;
       keys = l.keys;
     } in
-    Standing T l.dues l.t l.opened (work l.left l.start l.finish) (waiting l.waits l.ready) (log l.runs l.last l.piece l.from l.until) l.table l.place
+    Standing T l.dues l.t l.opened (work l.left l.start l.finish) (waiting l.waits l.ready)
+    (log l.runs l.last l.piece l.from l.until) l.table l.place
     l.busy
 
 abbrev pub decreases-loop-left : goal.decreases-loop-left

@@ -26,8 +26,9 @@ piece_in s =
 
 pub returns-then-left-i-gt0 : goal.returns-then-left-i-gt0
 returns-then-left-i-gt0 c =
+    let start = (goal.at.returns-then-left-i-gt0 c).Start in
     let a = c.args in record {
-      ready_after = unfinished_hands (tied (goal.at.returns-then-left-i-gt0 c).Start) a.m a.c a.left.now a.i (was (goal.at.returns-then-left-i-gt0 c).Start) c.if-left-i-gt0.true;
+      ready_after = unfinished_hands (tied start) a.m a.c a.left.now a.i (was start) c.if-left-i-gt0.true;
       hands = record {
         opening = λ n U U' few one same is o.
             still_open n a.i a.opened a.table.now a.place.now U U' a.waits.now c.requires.among.0 same
@@ -48,9 +49,11 @@ pass_on-requires c =
 
 pub returns : goal.returns
 returns c =
+    let start = (goal.at.returns c).Start in
     let a = c.args in
     let o = c.pass_on.ensures.opens in record {
-      ready_after = finished_hands (tied (goal.at.returns c).Start) a.m a.c a.left.now a.i (was (goal.at.returns c).Start) _ c.if-left-i-gt0.false c.pass_on.ensures.ready_after;
+      ready_after = finished_hands (tied start) a.m a.c a.left.now a.i (was start) _ c.if-left-i-gt0.false
+          c.pass_on.ensures.ready_after;
       hands = record {
         opening = λ n U U' few one same is w.
             o.opening n U' few one (c.close-rest.ensures.opening n U U' a.waits.now few same

@@ -11,7 +11,9 @@ use Rattle.handing.proofs.passing.pass.Goals.{After-greater, Then-w-eq1}
 use Rattle.handing.proofs.passing.pass.Goals as goal
 
 -- What the tables of waits and ready moments are.
-tables : (c : After-greater) → let a = c.args in let x = get_or a.afters.now a.k 0 in waiting (set a.waits.now x c.one_less.result) (set a.ready.now x c.greater.result) ≡ passed (ties a.desks.now a.befores.now a.afters.now a.handovers.now) a.c a.k (waiting a.waits.now a.ready.now)
+tables : (c : After-greater) → let a = c.args in let x = get_or a.afters.now a.k 0 in waiting
+    (set a.waits.now x c.one_less.result) (set a.ready.now x c.greater.result) ≡ passed
+    (ties a.desks.now a.befores.now a.afters.now a.handovers.now) a.c a.k (waiting a.waits.now a.ready.now)
 tables c =
     let a = c.args in
     let l = ties a.desks.now a.befores.now a.afters.now a.handovers.now in

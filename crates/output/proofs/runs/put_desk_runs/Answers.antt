@@ -9,7 +9,8 @@ use Rattle.output.proofs.runs.put_desk_runs.Goals.{After-run-1, In-loop-run}
 use Rattle.output.proofs.runs.put_desk_runs.Goals as goal
 
 -- The chain begins at the desk's first run.
-begins : (c : After-run-1) → let a = c.args in get_or a.first.now c.place_of.result 0 ≡ next_run a.desks.now a.pieces.now a.desk (a.count - 0) 0
+begins : (c : After-run-1) → let a = c.args in get_or a.first.now c.place_of.result 0 ≡ next_run a.desks.now
+    a.pieces.now a.desk (a.count - 0) 0
 begins c =
     let desk = c.place_of.ensures in
     ap (λ x. get_or c.args.first.now x 0) desk.0
@@ -21,7 +22,8 @@ loop-run-init c =
     along_start a.count a.desks.now a.pieces.now a.froms.now a.untils.now a.desk a.buffer.now
     a.at _ (begins c)
 
-here : (c : In-loop-run) → let a = c.args in let L = c.loop-run in Here a.count a.desks.now a.pieces.now a.froms.now a.untils.now a.desk a.buffer.now a.at L.buffer L.next (L.run - 1)
+here : (c : In-loop-run) → let a = c.args in let L = c.loop-run in Here a.count a.desks.now a.pieces.now a.froms.now
+    a.untils.now a.desk a.buffer.now a.at L.buffer L.next (L.run - 1)
 here c = along_here (c.loop-run.run - 1) c.loop-run.invariant (omega arith)
 
 -- The run's place is within the log.
@@ -52,7 +54,8 @@ bounds-untils-k c = omega (arith, within (goal.at.bounds-untils-k c).In-loop-run
 
 pub put_record-requires : goal.put_record-requires
 put_record-requires c =
-    omega (arith, (here (goal.at.put_record-requires c).In-loop-run).room, (here (goal.at.put_record-requires c).In-loop-run).logged.same, c.requires.desk_in_bounds)
+    let turn = (goal.at.put_record-requires c).In-loop-run in
+    omega (arith, (here turn).room, (here turn).logged.same, c.requires.desk_in_bounds)
 
 pub overflow_add-next : goal.overflow_add-next
 overflow_add-next c = omega (arith, behind (goal.at.overflow_add-next c).In-loop-run)

@@ -7,7 +7,11 @@ latest_moments-requires c = to_time _ _ _ _ _ _ _ _ _ _ _ _ c.requires.planable 
 
 pub plan-requires : goal.plan-requires
 plan-requires c =
-    record { given = given_here _ _ _ _ _ _ _ _ _ _ _ _ c.requires.planable _ c.latest_moments.ensures; chained = c.requires.planable.walkable.chained; sized = c.requires.sized }
+    record {
+      given = given_here _ _ _ _ _ _ _ _ _ _ _ _ c.requires.planable _ c.latest_moments.ensures;
+      chained = c.requires.planable.walkable.chained;
+      sized = c.requires.sized;
+    }
 
 pub returns : goal.returns
 returns c =
