@@ -7,8 +7,7 @@ use borrow.Author.Tests.{lt-ltb, le-ltb}
 use Rattle.rules.specs.File.{byte_at, whole_records, record_at, Kind, of_piece, of_link, unknown, kind_of}
 use Rattle.rules.specs.Job.{Job}
 use Rattle.rules.specs.Reading.{record_fault, unless_fault, contents, judged, at_end, item_at}
-use Rattle.rules.specs.declared.Item.{Item}
-use Rattle.rules.specs.declared.Item.TheVariants.{Stop}
+use Rattle.rules.specs.Answers.{Item, Stop}
 use Rattle.cursor.specs.JudgedAs.{judged_as}
 
 -- A fault is the refusal of the record; without one the record says what it holds.

@@ -23,11 +23,7 @@ use Rattle.rules.specs.BlockSheet.{block_numbers, block_answer_of, block_buffer_
 use Rattle.rules.specs.Listing.{listing_of, listing}
 use Rattle.rules.specs.declared.Piece.{Piece}
 use Rattle.rules.specs.declared.Link.{Link}
-use Rattle.rules.specs.declared.Refusal.{Refusal}
-use Rattle.rules.specs.declared.PlanAnswer.{PlanAnswer}
-use Rattle.rules.specs.declared.BlockAnswer.{BlockAnswer}
-use Rattle.rules.specs.declared.Item.{Item}
-use Rattle.rules.specs.declared.Item.TheVariants.{Work, Tie, Stop, Done}
+use Rattle.rules.specs.Answers.{Refusal, PlanAnswer, BlockAnswer, Item, Work, Tie, Stop, Done}
 use Rattle.laws.proofs.Words.{by_test}
 use Rattle.laws.proofs.Prefix.{first_bytes_decide}
 use Rattle.demands.specs.Promises.{PlanPromise, BlockPromise, RunsPromise}

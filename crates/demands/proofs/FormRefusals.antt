@@ -18,10 +18,7 @@ use Rattle.rules.specs.Form.{form_job, offers, offer_fault, take_all, unless_cut
 use Rattle.rules.specs.Form.{write_outcome, write_answer_of, write_buffer_of, write_answer, write_buffer}
 use Rattle.rules.specs.declared.Piece.{Piece}
 use Rattle.rules.specs.declared.Link.{Link}
-use Rattle.rules.specs.declared.Item.{Item}
-use Rattle.rules.specs.declared.Item.TheVariants.{Work, Tie}
-use Rattle.rules.specs.declared.Refusal.{Refusal}
-use Rattle.rules.specs.declared.WriteAnswer.{WriteAnswer}
+use Rattle.rules.specs.Answers.{Item, Work, Tie, Refusal, WriteAnswer}
 use Rattle.laws.specs.Held.{Held, cut_down}
 use Rattle.laws.proofs.Words.{by_test, when_true}
 use Rattle.laws.proofs.Reread.{file_judged}

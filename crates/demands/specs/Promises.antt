@@ -4,9 +4,7 @@ use Rattle.rules.specs.Plan.{plan_answer, plan_buffer}
 use Rattle.rules.specs.BlockSheet.{block_answer, block_buffer}
 use Rattle.rules.specs.DeskRuns.{stretch_from, stretch}
 use Rattle.rules.specs.Form.{write_answer, write_buffer}
-use Rattle.rules.specs.declared.PlanAnswer.{PlanAnswer}
-use Rattle.rules.specs.declared.BlockAnswer.{BlockAnswer}
-use Rattle.rules.specs.declared.WriteAnswer.{WriteAnswer}
+use Rattle.rules.specs.Answers.{PlanAnswer, BlockAnswer, WriteAnswer}
 
 -- The plan.
 pub record PlanPromise (file buffer : List ℕ) (answer : PlanAnswer) (after : List ℕ) : Type 0 where

@@ -10,7 +10,7 @@ use lib.IntN.{ℤ}
 use lib.ListN.{length, get_or, drop, length-append}
 use Rattle.rules.specs.Words.{below, joined, greatest, worst_of, sum}
 use Rattle.rules.specs.Job.{Job, piece_count, desk, refused, accepted}
-use Rattle.rules.specs.declared.Refusal.{Refusal}
+use Rattle.rules.specs.Answers.{Refusal}
 use Rattle.rules.specs.Moments.{latest}
 use Rattle.rules.specs.Urgency.{start, finish}
 use Rattle.rules.specs.Runs.{Run, runs}

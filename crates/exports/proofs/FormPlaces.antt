@@ -15,9 +15,7 @@ use Rattle.rules.specs.Form.{piece_row, link_row, form_job, offers, offer_fault,
 use Rattle.rules.specs.Form.{form_outcome, write_outcome, write_answer_of, write_answer}
 use Rattle.rules.specs.declared.Piece.{Piece}
 use Rattle.rules.specs.declared.Link.{Link}
-use Rattle.rules.specs.declared.Item.{Item}
-use Rattle.rules.specs.declared.Item.TheVariants.{Work, Tie}
-use Rattle.rules.specs.declared.WriteAnswer.{WriteAnswer}
+use Rattle.rules.specs.Answers.{Item, Work, Tie, WriteAnswer}
 use Rattle.exports.specs.Calls.{write_row}
 use Rattle.exports.proofs.Places.{place_of}
 use Rattle.laws.proofs.Words.{by_test, length-below}

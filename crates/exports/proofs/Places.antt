@@ -14,8 +14,7 @@ use Rattle.rules.specs.Rings.{linked, ring_piece}
 use Rattle.rules.specs.Judgement.{then_judge, unless_ring, unless_no_desk, unless_short, file_outcome, plan_outcome, block_outcome}
 use Rattle.rules.specs.Plan.{plan_numbers, plan_answer_of, plan_answer}
 use Rattle.rules.specs.BlockSheet.{block_numbers, block_answer_of, block_answer}
-use Rattle.rules.specs.declared.PlanAnswer.{PlanAnswer}
-use Rattle.rules.specs.declared.BlockAnswer.{BlockAnswer}
+use Rattle.rules.specs.Answers.{PlanAnswer, BlockAnswer}
 use Rattle.exports.specs.Calls.{plan_row, sheet_row}
 use Rattle.laws.proofs.Words.{by_test}
 use Rattle.laws.proofs.Rings.{ring_found}

@@ -4,9 +4,7 @@ use Rattle.rules.specs.Plan.{plan_answer, plan_buffer}
 use Rattle.rules.specs.BlockSheet.{block_answer, block_buffer}
 use Rattle.rules.specs.DeskRuns.{stretch_from, stretch_end}
 use Rattle.rules.specs.Form.{write_answer, write_buffer}
-use Rattle.rules.specs.declared.PlanAnswer.{PlanAnswer}
-use Rattle.rules.specs.declared.BlockAnswer.{BlockAnswer}
-use Rattle.rules.specs.declared.WriteAnswer.{WriteAnswer}
+use Rattle.rules.specs.Answers.{PlanAnswer, BlockAnswer, WriteAnswer}
 use Rattle.deskplan_text.specs.Promise.{listed_count, listed_text}
 
 -- number, place, pieces, runs, end, worst

@@ -10,8 +10,7 @@ use Rattle.rules.specs.Words.{row, below}
 use Rattle.rules.specs.Job.{Job, Outcome, refused}
 use Rattle.rules.specs.Reading.{and_then}
 use Rattle.rules.specs.Form.{piece_row, link_row, offer_fault, take_all}
-use Rattle.rules.specs.declared.Item.{Item}
-use Rattle.rules.specs.declared.Item.TheVariants.{Work, Tie}
+use Rattle.rules.specs.Answers.{Item, Work, Tie}
 use Rattle.laws.proofs.Words.{length-below}
 use Rattle.laws.proofs.Joined.{map_append, below_more}
 use Rattle.laws.proofs.Offers.{taken_first, refused_first}

@@ -3,9 +3,7 @@ use Rattle.std.specs.Prelude.{ℕ, ◌/◌, List, [], ◌++◌, map, ◌≡◌, 
 use Rattle.rules.specs.Words.{below}
 use Rattle.rules.specs.Job.{Job, Outcome, refused, accepted, empty_job}
 use Rattle.rules.specs.Form.{piece_row, link_row, take_all}
-use Rattle.rules.specs.declared.Item.{Item}
-use Rattle.rules.specs.declared.Item.TheVariants.{Work, Tie}
-use Rattle.rules.specs.declared.Refusal.{Refusal}
+use Rattle.rules.specs.Answers.{Item, Work, Tie, Refusal}
 
 -- An outcome told in one refusal: number 0 says that it is this one, any other number that it is that refusal.
 pub record Told (o fine : Outcome) (r : Refusal) : Type 0 where

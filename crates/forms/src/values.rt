@@ -1,7 +1,7 @@
 // One row of a form, judged as the reader judges its record: the number of the refusal, and 0 where there is none.
 ghost use Rattle.std.specs.Prelude.{◌+◌, ◌*◌, ◌<◌, length};
 ghost use Rattle.rules.specs.Form.{piece_row, link_row, offer_fault};
-ghost use Rattle.rules.specs.declared.Item.TheVariants.{Work, Tie};
+ghost use Rattle.rules.specs.Answers.{Work, Tie};
 ghost use Rattle.judge.specs.Says.{Says};
 
 use judge::faults::{link_order_fault, piece_order_fault};

@@ -15,8 +15,7 @@ use Rattle.rules.specs.Writing.{file_of}
 use Rattle.rules.specs.Form.{offers, offer_fault, take_all}
 use Rattle.rules.specs.declared.Piece.{Piece}
 use Rattle.rules.specs.declared.Link.{Link}
-use Rattle.rules.specs.declared.Item.{Item}
-use Rattle.rules.specs.declared.Item.TheVariants.{Work, Tie}
+use Rattle.rules.specs.Answers.{Item, Work, Tie}
 use Rattle.laws.specs.Held.{Held, cut_to, cut_piece, cut_link, cut_down}
 use Rattle.laws.proofs.Words.{by_test, when_true, when_false}
 use Rattle.laws.proofs.Joined.{mem_of_map}

@@ -13,6 +13,7 @@ pub mod Written
 pub mod Offers
 pub mod Reread
 pub mod CutDown
+pub mod Columns
 pub mod Prefix
 pub mod Settling
 pub mod Latest

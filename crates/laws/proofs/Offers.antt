@@ -1,6 +1,6 @@
 -- Pieces and links offered for writing, taken one by one: what was taken is sound and is all that was offered, and a sound
 -- job is taken whole.
-use Prim.Native.Nat.{ℕ, zero, suc, ◌+◌, ◌-◌, ◌≤◌, ◌<◌}
+use Prim.Native.Nat.{ℕ, zero, suc, ◌+◌, ◌≤◌, ◌<◌}
 use mathlib.Core.List.{List, [], ◌∷◌, ◌++◌, map, append-nil, append_assoc}
 use mathlib.Core.Path.{◌≡◌, refl, sym, ap, ◌∙◌}
 use native.Mathlib.Omega.{arith}
@@ -14,8 +14,7 @@ use Rattle.rules.specs.Tables.{Sound, no_link}
 use Rattle.rules.specs.Form.{offers, offer_fault, take_all}
 use Rattle.rules.specs.declared.Piece.{Piece}
 use Rattle.rules.specs.declared.Link.{Link}
-use Rattle.rules.specs.declared.Item.{Item}
-use Rattle.rules.specs.declared.Item.TheVariants.{Work, Tie, Stop, Done}
+use Rattle.rules.specs.Answers.{Item, Work, Tie, Stop, Done}
 use Rattle.laws.proofs.Words.{passed, when_false}
 use Rattle.laws.proofs.Reading.{no_fault, accepted_inj, PieceRead, LinkRead, sound_piece, sound_link, sound_empty}
 

@@ -13,8 +13,7 @@ use Rattle.rules.specs.Job.{Job, Outcome, empty_job, with_piece, with_link, piec
 use Rattle.rules.specs.File.{record_at}
 use Rattle.rules.specs.Reading.{judged, item_at, and_then, read_from, read_job}
 use Rattle.rules.specs.Tables.{Sound}
-use Rattle.rules.specs.declared.Item.{Item}
-use Rattle.rules.specs.declared.Item.TheVariants.{Work, Tie, Stop, Done}
+use Rattle.rules.specs.Answers.{Item, Work, Tie, Stop, Done}
 use Rattle.laws.proofs.Words.{by_test, when_true}
 use Rattle.laws.proofs.Reading.{item_work, item_tie, sound_piece, sound_link, sound_empty}
 

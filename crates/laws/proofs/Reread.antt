@@ -24,8 +24,7 @@ use Rattle.rules.specs.Writing.{piece_record, link_record, file_of}
 use Rattle.rules.specs.Form.{offers, offer_fault, take_all}
 use Rattle.rules.specs.declared.Piece.{Piece}
 use Rattle.rules.specs.declared.Link.{Link}
-use Rattle.rules.specs.declared.Item.{Item}
-use Rattle.rules.specs.declared.Item.TheVariants.{Work, Tie, Stop, Done}
+use Rattle.rules.specs.Answers.{Item, Work, Tie, Stop, Done}
 use Rattle.laws.specs.Held.{PieceHeld, LinkHeld, Held}
 use Rattle.laws.proofs.Words.{on_tail, when_true, when_false}
 use Rattle.laws.proofs.Joined.{map_append, map_twice, joined_append, mem_of_map}

@@ -11,7 +11,7 @@ use native.Mathlib.Omega.{arith}
 use borrow.Author.Tests.{ltb-true, leb-true, eqb-true, eqb-false, eq-eqb, lt-ltb, le-leb}
 use lib.Dec.{ltb, leb, eqb}
 use lib.ListN.{length, length-map, get_or-map}
-use Rattle.rules.specs.Words.{when, every, below, is_it}
+use Rattle.rules.specs.Words.{below, is_it}
 use Rattle.rules.specs.Job.{Job, piece_count, piece, desk, duration, desk_pieces, links_into, no_piece}
 use Rattle.rules.specs.Hours.{is_open}
 use Rattle.rules.specs.Moments.{delay, sooner}

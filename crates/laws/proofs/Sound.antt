@@ -5,13 +5,13 @@ use mathlib.Core.Bool.{true, false, ◌&&◌}
 use mathlib.Core.List.Memᴰ.{head as here}
 use mathlib.Core.List.Memᴰ.{tail as there}
 use mathlib.Core.List.{List, [], ◌∷◌, Memᴰ as Mem}
-use mathlib.Core.Option.{none, some}
+use mathlib.Core.Option.{none}
 use mathlib.Core.Path.{◌≡◌, refl, sym, ap, ◌∙◌}
 use native.Mathlib.Omega.{arith}
 use borrow.Author.Tests.{ltb-false, leb-false, eqb-true, eqb-false, eq-eqb}
 use lib.Dec.{ltb, leb, eqb}
 use lib.ListN.{length, get_or}
-use Rattle.rules.specs.Job.{Job, piece_count, piece, desk, duration, links_into, links_from}
+use Rattle.rules.specs.Job.{Job, piece_count, piece, links_into, links_from}
 use Rattle.rules.specs.Reading.{piece_fault, link_fault}
 use Rattle.rules.specs.Rings.{via, linked_by, linked, ring_piece}
 use Rattle.rules.specs.Tables.{Sound, no_link}

@@ -10,7 +10,7 @@ use borrow.Author.Tests.{eqb-true, ltb-true, ltb-false}
 use lib.Dec.{eqb, ltb}
 use lib.ListN.{length, get_or, take, drop, length-drop}
 use lib.Seq.{length-take-le, take_all, take-add, get_or-take, get_or-drop}
-use Rattle.rules.specs.Words.{when, joined}
+use Rattle.rules.specs.Words.{joined}
 use Rattle.rules.specs.Job.{Job, Outcome, refused, accepted, empty_job, with_piece, with_link}
 use Rattle.rules.specs.File.{byte_at, whole_records, record_at, Kind, of_piece, of_link, unknown, kind_of, as_piece}
 use Rattle.rules.specs.File.{as_link, zero_places}
@@ -19,8 +19,7 @@ use Rattle.rules.specs.Reading.{judged, at_end, item_at, and_then, read_from, re
 use Rattle.rules.specs.Writing.{piece_record, link_record, file_of}
 use Rattle.rules.specs.declared.Piece.{Piece}
 use Rattle.rules.specs.declared.Link.{Link}
-use Rattle.rules.specs.declared.Item.{Item}
-use Rattle.rules.specs.declared.Item.TheVariants.{Work, Tie, Stop, Done}
+use Rattle.rules.specs.Answers.{Item, Work, Tie, Stop, Done}
 use Rattle.laws.proofs.Words.{by_test, passed, one_of-none, true_or_false, when_true, when_false}
 use Rattle.laws.proofs.Joined.{map_append, joined_append}
 use Rattle.laws.proofs.Reading.{kind_no, no_fault, unfaulted, work_inj, tie_inj, accepted_inj, record_work, item_judged}

@@ -11,8 +11,7 @@ use lib.ListN.{length}
 use lib.Seq.{sets}
 use Rattle.rules.specs.Words.{when}
 use Rattle.rules.specs.Job.{Job, piece_count, refused, accepted}
-use Rattle.rules.specs.declared.Refusal.{Refusal}
-use Rattle.rules.specs.declared.PlanAnswer.{PlanAnswer}
+use Rattle.rules.specs.Answers.{Refusal, PlanAnswer}
 use Rattle.rules.specs.Judgement.{refuse, then_judge, unless_short, file_outcome, plan_outcome}
 use Rattle.rules.specs.Plan.{at_front, plan_numbers, plan_answer_of, plan_buffer_of, plan_answer, plan_buffer}
 use Rattle.demands.specs.Promises.{PlanPromise}

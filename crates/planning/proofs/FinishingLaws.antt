@@ -9,7 +9,7 @@ use lib.IntN.{ℤ}
 use lib.ListN.{length}
 use Rattle.rules.specs.Job.{refused, accepted}
 use Rattle.rules.specs.Judgement.{file_outcome}
-use Rattle.rules.specs.declared.Refusal.{Refusal}
+use Rattle.rules.specs.Answers.{Refusal}
 use Rattle.rules.specs.Rings.{ring_piece}
 use Rattle.rules.specs.Tables.{Sound, job_in, piece_in}
 use Rattle.demands.proofs.Accepting.{accepted_sound, accepted_free}

@@ -8,7 +8,7 @@ use lib.ListN.{replicate, get_or-replicate}
 use Rattle.rules.specs.Rings.{ring_piece, lowest_on_ring}
 use Rattle.rules.specs.Judgement.{then_judge, unless_ring, file_outcome}
 use Rattle.rules.specs.Tables.{job_in}
-use Rattle.rules.specs.declared.Refusal.{Refusal}
+use Rattle.rules.specs.Answers.{Refusal}
 use Rattle.reader.specs.Outcome.{ReadsJob}
 use Rattle.reader.specs.declared.Read.{Read}
 use Rattle.reader.specs.declared.Read.TheVariants.{Job, Refused}

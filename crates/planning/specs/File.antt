@@ -2,7 +2,7 @@
 use Rattle.std.specs.Prelude.{ℕ, List, ◌≡◌, ℤ}
 use Rattle.rules.specs.Job.{refused}
 use Rattle.rules.specs.Judgement.{file_outcome}
-use Rattle.rules.specs.declared.Refusal.{Refusal}
+use Rattle.rules.specs.Answers.{Refusal}
 use Rattle.finished.specs.Finished.{PlannedFile}
 use Rattle.planning.specs.declared.file.Planned.{Planned}
 use Rattle.planning.specs.declared.file.Planned.TheVariants.{Plan, Refused}

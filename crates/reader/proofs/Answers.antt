@@ -1,9 +1,7 @@
 -- What is no refusal ends the reading with the job.
 use Prim.Native.Nat.{ℕ}
 use mathlib.Core.Path.{◌≡◌, refl}
-use Rattle.rules.specs.declared.Refusal.{Refusal}
-use Rattle.rules.specs.declared.Item.{Item}
-use Rattle.rules.specs.declared.Item.TheVariants.{Work, Tie, Stop, Done}
+use Rattle.rules.specs.Answers.{Refusal, Item, Work, Tie, Stop, Done}
 use Rattle.reader.specs.Outcome.{end_of}
 use Rattle.reader.specs.declared.Read.TheVariants.{Job}
 

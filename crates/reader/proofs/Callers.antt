@@ -6,7 +6,7 @@ use mathlib.Core.Path.{◌≡◌, ap, ◌∙◌}
 use Rattle.rules.specs.Job.{refused, accepted}
 use Rattle.rules.specs.Reading.{read_job}
 use Rattle.rules.specs.Tables.{Sound, job_in}
-use Rattle.rules.specs.declared.Refusal.{Refusal}
+use Rattle.rules.specs.Answers.{Refusal}
 use Rattle.laws.proofs.Reading.{job_sound}
 use Rattle.reader.specs.Outcome.{outcome_of, ReadsJob}
 use Rattle.reader.specs.declared.Read.{Read}

@@ -11,9 +11,7 @@ use Rattle.rules.specs.Words.{when}
 use Rattle.rules.specs.File.{byte_at, whole_records, record_at, Kind, of_piece, of_link, unknown, kind_of}
 use Rattle.rules.specs.Job.{Job, refused, accepted}
 use Rattle.rules.specs.Reading.{record_fault, contents, unless_fault, at_end, item_at, read_job}
-use Rattle.rules.specs.declared.Refusal.{Refusal}
-use Rattle.rules.specs.declared.Item.{Item}
-use Rattle.rules.specs.declared.Item.TheVariants.{Stop}
+use Rattle.rules.specs.Answers.{Refusal, Item, Stop}
 use Rattle.laws.proofs.Words.{by_test}
 use Rattle.cursor.proofs.Judged.{judged_as_lem, item_record, item_end}
 use Rattle.reader.proofs.Rest.{every_reading}

@@ -13,9 +13,7 @@ use Rattle.rules.specs.Job.{Job, Outcome, refused, accepted, empty_job, with_pie
 use Rattle.rules.specs.Reading.{at_end, item_at, and_then, read_from, read_job}
 use Rattle.rules.specs.declared.Piece.{Piece}
 use Rattle.rules.specs.declared.Link.{Link}
-use Rattle.rules.specs.declared.Refusal.{Refusal}
-use Rattle.rules.specs.declared.Item.{Item}
-use Rattle.rules.specs.declared.Item.TheVariants.{Work, Tie, Stop, Done}
+use Rattle.rules.specs.Answers.{Refusal, Item, Work, Tie, Stop, Done}
 use Rattle.laws.proofs.Words.{by_test}
 use Rattle.cursor.proofs.Judged.{item_end}
 use Rattle.reader.specs.Rest.{rest}

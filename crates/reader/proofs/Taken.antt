@@ -10,8 +10,7 @@ use Rattle.rules.specs.Reading.{item_at, read_job}
 use Rattle.rules.specs.Tables.{pieces_in, links_in, job_in}
 use Rattle.rules.specs.declared.Piece.{Piece}
 use Rattle.rules.specs.declared.Link.{Link}
-use Rattle.rules.specs.declared.Item.{Item}
-use Rattle.rules.specs.declared.Item.TheVariants.{Work, Tie, Stop, Done}
+use Rattle.rules.specs.Answers.{Item, Work, Tie, Stop, Done}
 use Rattle.judge.specs.Says.{Says}
 use Rattle.laws.proofs.Reading.{item_work, item_tie}
 use Rattle.reader.specs.Entries.{PieceEntered, LinkEntered}

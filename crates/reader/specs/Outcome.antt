@@ -3,8 +3,7 @@ use Rattle.std.specs.Prelude.{ℕ, ◌≤◌, List, ◌≡◌}
 use Rattle.rules.specs.Job.{Outcome, refused, accepted}
 use Rattle.rules.specs.Reading.{read_job}
 use Rattle.rules.specs.Tables.{job_in}
-use Rattle.rules.specs.declared.Item.{Item}
-use Rattle.rules.specs.declared.Item.TheVariants.{Work, Tie, Stop, Done}
+use Rattle.rules.specs.Answers.{Item, Work, Tie, Stop, Done}
 use Rattle.reader.specs.Sizes.{PieceTables, LinkTables}
 use Rattle.reader.specs.declared.Read.{Read}
 use Rattle.reader.specs.declared.Read.TheVariants.{Job, Refused}

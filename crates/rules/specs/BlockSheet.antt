@@ -12,7 +12,7 @@ use Rattle.rules.specs.Judgement.{block_outcome}
 use Rattle.rules.specs.Plan.{at_front}
 use Rattle.rules.specs.Entries.{Entry, entries}
 use Rattle.rules.specs.Blocks.{Block, block_end, cut, block_worked}
-use Rattle.rules.specs.declared.BlockAnswer.{BlockAnswer}
+use Rattle.rules.specs.Answers.{BlockAnswer}
 
 -- The blocks of the first cutting.
 unfoldable pub blocks : Job → ℕ → List Block

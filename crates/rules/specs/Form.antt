@@ -10,9 +10,7 @@ use Rattle.rules.specs.Judgement.{refuse, then_judge}
 use Rattle.rules.specs.Plan.{at_front}
 use Rattle.rules.specs.declared.Piece.{Piece}
 use Rattle.rules.specs.declared.Link.{Link}
-use Rattle.rules.specs.declared.Item.{Item}
-use Rattle.rules.specs.declared.Item.TheVariants.{Work, Tie, Stop, Done}
-use Rattle.rules.specs.declared.WriteAnswer.{WriteAnswer}
+use Rattle.rules.specs.Answers.{Item, Work, Tie, Stop, Done, WriteAnswer}
 
 -- A piece is a row of four numbers: desk, duration, release, due. A link is a row of three: the piece before, the piece
 -- after, the handover.

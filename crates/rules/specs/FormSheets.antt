@@ -4,7 +4,7 @@ use Rattle.std.specs.Prelude.{ℕ, List, [], ◌∷◌, ◌++◌, map, ◌≡◌
 use Rattle.rules.specs.Hex.{hex}
 use Rattle.rules.specs.Form.{write_answer, write_buffer}
 use Rattle.rules.specs.Sheets.{marks}
-use Rattle.rules.specs.declared.WriteAnswer.{WriteAnswer}
+use Rattle.rules.specs.Answers.{WriteAnswer}
 
 pub record FormSheet : Type 0 where
   pub pieces : List ℕ

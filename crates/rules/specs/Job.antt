@@ -4,7 +4,7 @@ use Rattle.std.specs.Prelude.{ℕ, List, [], ◌∷◌, ◌++◌, eqb, length, g
 use Rattle.rules.specs.Words.{keep, below}
 use Rattle.rules.specs.declared.Piece.{Piece}
 use Rattle.rules.specs.declared.Link.{Link}
-use Rattle.rules.specs.declared.Refusal.{Refusal}
+use Rattle.rules.specs.Answers.{Refusal}
 
 pub record Job : Type 0 where
   pub pieces : List Piece

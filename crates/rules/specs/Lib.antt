@@ -1,5 +1,6 @@
 -- The definitions of the desk planner, one file for each section of the rules page, in the page's order.
 pub mod Words
+pub mod Answers
 pub mod Job
 pub mod File
 pub mod Reading
@@ -19,6 +20,7 @@ pub mod Blocks
 pub mod BlockSheet
 pub mod DeskRuns
 pub mod Listing
+pub mod Told
 pub mod Hex
 pub mod Sheets
 pub mod FormSheets

@@ -10,8 +10,7 @@ use Rattle.rules.specs.Urgency.{start, finish}
 use Rattle.rules.specs.Runs.{Run, runs}
 use Rattle.rules.specs.Judgement.{file_outcome}
 use Rattle.rules.specs.Plan.{lateness, plan_numbers}
-use Rattle.rules.specs.declared.Refusal.{Refusal}
-use Rattle.rules.specs.declared.PlanAnswer.{PlanAnswer}
+use Rattle.rules.specs.Answers.{Refusal, PlanAnswer}
 
 -- The bytes of a text in the letters of this page.
 unfoldable pub letters : String → List ℕ

@@ -8,7 +8,7 @@ use Rattle.rules.specs.Urgency.{finish}
 use Rattle.rules.specs.Runs.{runs}
 use Rattle.rules.specs.Bytes.{result_record, run_record}
 use Rattle.rules.specs.Judgement.{plan_outcome}
-use Rattle.rules.specs.declared.PlanAnswer.{PlanAnswer}
+use Rattle.rules.specs.Answers.{PlanAnswer}
 
 -- Lateness is finish less latest moment: below zero early, zero just in time, above zero late.
 unfoldable pub lateness : Job → ℕ → ℤ

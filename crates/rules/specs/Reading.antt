@@ -6,8 +6,7 @@ use Rattle.rules.specs.Job.{Job, Outcome, refused, accepted, empty_job, with_pie
 use Rattle.rules.specs.File.{byte_at, whole_records, record_at, Kind, of_piece, of_link, unknown, kind_of, as_piece, as_link, zero_places}
 use Rattle.rules.specs.declared.Piece.{Piece}
 use Rattle.rules.specs.declared.Link.{Link}
-use Rattle.rules.specs.declared.Item.{Item}
-use Rattle.rules.specs.declared.Item.TheVariants.{Work, Tie, Stop, Done}
+use Rattle.rules.specs.Answers.{Item, Work, Tie, Stop, Done}
 
 -- The value faults of a piece: 5, desk above 31; 6, duration 0 or above 960; 7, release or due above 40,000. 0: none.
 unfoldable pub piece_fault : Piece → ℕ

@@ -7,8 +7,7 @@ use Rattle.rules.specs.Hex.{hex}
 use Rattle.rules.specs.Plan.{plan_answer, plan_buffer}
 use Rattle.rules.specs.BlockSheet.{block_answer, block_buffer}
 use Rattle.rules.specs.Listing.{letters, listing}
-use Rattle.rules.specs.declared.PlanAnswer.{PlanAnswer}
-use Rattle.rules.specs.declared.BlockAnswer.{BlockAnswer}
+use Rattle.rules.specs.Answers.{PlanAnswer, BlockAnswer}
 
 -- A block sheet of one desk: the answer and the buffer.
 pub record BlockPart : Type 0 where

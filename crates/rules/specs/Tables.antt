@@ -6,6 +6,8 @@ use Rattle.rules.specs.Job.{Job, piece_count, piece}
 use Rattle.rules.specs.Reading.{piece_fault, link_fault}
 use Rattle.rules.specs.declared.Piece.{Piece}
 use Rattle.rules.specs.declared.Link.{Link}
+use Rattle.rules.specs.declared.Span.{Span}
+use Rattle.rules.specs.declared.Run.{Run}
 
 -- Piece i out of the tables for desk, duration, release and due.
 unfoldable pub piece_in : List ℕ → List ℕ → List ℕ → List ℕ → ℕ → Piece
@@ -30,6 +32,54 @@ unfoldable pub job_in : ℕ → ℕ → List ℕ → List ℕ → List ℕ → L
 unfolding pieces_in links_in
 job_in n m desks durations releases dues befores afters handovers =
     record { pieces = pieces_in n desks durations releases dues; links = links_in m befores afters handovers }
+
+-- The tables of a list of pieces, of links, of spans and of runs: a table of numbers for each field.
+abbrev pub desks_of : List Piece → List ℕ
+desks_of ps = map (λ p. p.desk) ps
+
+abbrev pub durations_of : List Piece → List ℕ
+durations_of ps = map (λ p. p.duration) ps
+
+abbrev pub releases_of : List Piece → List ℕ
+releases_of ps = map (λ p. p.release) ps
+
+abbrev pub dues_of : List Piece → List ℕ
+dues_of ps = map (λ p. p.due) ps
+
+abbrev pub befores_of : List Link → List ℕ
+befores_of ls = map (λ l. l.before) ls
+
+abbrev pub afters_of : List Link → List ℕ
+afters_of ls = map (λ l. l.after) ls
+
+abbrev pub handovers_of : List Link → List ℕ
+handovers_of ls = map (λ l. l.handover) ls
+
+abbrev pub starts_of : List Span → List ℕ
+starts_of ws = map (λ w. w.start) ws
+
+abbrev pub finishes_of : List Span → List ℕ
+finishes_of ws = map (λ w. w.finish) ws
+
+abbrev pub run_pieces : List Run → List ℕ
+run_pieces rs = map (λ r. r.piece) rs
+
+abbrev pub run_froms : List Run → List ℕ
+run_froms rs = map (λ r. r.from) rs
+
+abbrev pub run_untils : List Run → List ℕ
+run_untils rs = map (λ r. r.until) rs
+
+-- The job of these pieces and links.
+abbrev pub job_of : List Piece → List Link → Job
+job_of ps ls = record { pieces = ps; links = ls }
+
+-- What stands for a span or a run where there is none of that place.
+abbrev pub no_span : Span
+no_span = record { start = 0; finish = 0 }
+
+abbrev pub no_run : Run
+no_run = record { piece = 0; from = 0; until = 0 }
 
 -- What stands for a link where there is none of that place: no rule looks at it.
 abbrev pub no_link : Link

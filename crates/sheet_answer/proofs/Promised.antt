@@ -11,8 +11,7 @@ use lib.ListN.{length, length-append}
 use lib.Seq.{sets, length-sets}
 use Rattle.rules.specs.Words.{when}
 use Rattle.rules.specs.Job.{Job, piece_count, refused, accepted}
-use Rattle.rules.specs.declared.Refusal.{Refusal}
-use Rattle.rules.specs.declared.BlockAnswer.{BlockAnswer}
+use Rattle.rules.specs.Answers.{Refusal, BlockAnswer}
 use Rattle.rules.specs.Judgement.{refuse, then_judge, unless_no_desk, unless_short, file_outcome, block_outcome}
 use Rattle.rules.specs.Plan.{at_front}
 use Rattle.rules.specs.BlockSheet.{block_numbers, block_answer_of, block_buffer_of, block_answer, block_buffer}

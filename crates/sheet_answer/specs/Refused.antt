@@ -2,8 +2,7 @@
 -- other number of the answer zero.
 use Rattle.std.specs.Prelude.{ℕ, ◌*◌, ltb, pos}
 use Rattle.rules.specs.Words.{when}
-use Rattle.rules.specs.declared.Refusal.{Refusal}
-use Rattle.rules.specs.declared.BlockAnswer.{BlockAnswer}
+use Rattle.rules.specs.Answers.{Refusal, BlockAnswer}
 
 abbrev pub refused_sheet : Refusal → BlockAnswer
 refused_sheet x = record { number = x.number; place = x.place; blocks = 0; runs = 0; worst = pos 0 }

@@ -13,8 +13,7 @@ use Rattle.rules.specs.Writing.{piece_record, link_record, file_of}
 use Rattle.rules.specs.Plan.{at_front}
 use Rattle.rules.specs.Form.{piece_row, link_row, form_job, form_outcome, unless_no_room, write_outcome, write_answer_of}
 use Rattle.rules.specs.Form.{write_buffer_of, write_answer, write_buffer}
-use Rattle.rules.specs.declared.Refusal.{Refusal}
-use Rattle.rules.specs.declared.WriteAnswer.{WriteAnswer}
+use Rattle.rules.specs.Answers.{Refusal, WriteAnswer}
 use Rattle.laws.proofs.Words.{length-below, when_true, when_false}
 use Rattle.laws.proofs.Joined.{map_twice}
 use Rattle.laws.proofs.Reread.{records_long, piece_sized, file_parts, file_long}

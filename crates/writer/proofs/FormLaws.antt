@@ -12,8 +12,7 @@ use Rattle.rules.specs.Job.{Job, Outcome, refused, accepted, empty_job}
 use Rattle.rules.specs.Judgement.{then_judge}
 use Rattle.rules.specs.Tables.{Sound}
 use Rattle.rules.specs.Form.{piece_row, link_row, form_job, offers, take_all, unless_cut, form_outcome}
-use Rattle.rules.specs.declared.Item.TheVariants.{Work, Tie}
-use Rattle.rules.specs.declared.Refusal.{Refusal}
+use Rattle.rules.specs.Answers.{Work, Tie, Refusal}
 use Rattle.laws.proofs.Words.{below_mem, mem_map, when_true, when_false}
 use Rattle.laws.proofs.Joined.{map_twice}
 use Rattle.laws.proofs.Reading.{sound_empty}

@@ -2,8 +2,7 @@
 use Rattle.std.specs.Prelude.{ℕ, List}
 use Rattle.rules.specs.Job.{accepted}
 use Rattle.rules.specs.Form.{form_job, form_outcome}
-use Rattle.rules.specs.declared.Refusal.{Refusal}
-use Rattle.rules.specs.declared.WriteAnswer.{WriteAnswer}
+use Rattle.rules.specs.Answers.{Refusal, WriteAnswer}
 use Rattle.forms.specs.Judged.{Told}
 
 -- The whole form.

@@ -2,7 +2,7 @@
 use mathlib.Core.Path.{ap}
 use Rattle.rules.specs.File.{of_link}
 use Rattle.rules.specs.Reading.{contents}
-use Rattle.rules.specs.declared.Item.TheVariants.{Tie}
+use Rattle.rules.specs.Answers.{Tie}
 use Rattle.cursor.proofs.Judged.{judged_by}
 use Rattle.cursor.proofs.items.link_item.Goals as goal
 

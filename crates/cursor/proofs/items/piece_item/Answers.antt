@@ -2,7 +2,7 @@
 use mathlib.Core.Path.{ap}
 use Rattle.rules.specs.File.{of_piece}
 use Rattle.rules.specs.Reading.{contents}
-use Rattle.rules.specs.declared.Item.TheVariants.{Work}
+use Rattle.rules.specs.Answers.{Work}
 use Rattle.cursor.proofs.Judged.{judged_by}
 use Rattle.cursor.proofs.items.piece_item.Goals as goal
 

@@ -3,7 +3,7 @@ use Prim.Native.Nat.{◌≤◌, ◌-◌, ◌/◌}
 use mathlib.Core.List.{List}
 use mathlib.Core.Path.{◌≡◌}
 use lib.ListN.{length}
-use Rattle.rules.specs.declared.Item.{Item}
+use Rattle.rules.specs.Answers.{Item}
 use Rattle.forms.proofs.InTurn.{whole, rest, piece_rows}
 use Rattle.forms.proofs.rows.judge_pieces.Given as goal
 
