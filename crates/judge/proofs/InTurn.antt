@@ -1,16 +1,31 @@
--- The judgement of a record of a known kind: its order, its values and its zero bytes, one after another.
-use Prim.Native.Nat.{ℕ}
-use mathlib.Core.List.{List}
-use mathlib.Core.Path.{◌≡◌, sym, ap, ap₂, ◌∙◌}
+-- One judgement after another, in the page's order: a fault decides, and where there is none the later judgement does.
+use Rattle.std.specs.Prelude.{ℕ, List, ◌≡◌}
+use Rattle.std.proofs.Common.{rules, ap, sym, ◌∙◌}
 use Rattle.rules.specs.File.{Kind}
 use Rattle.rules.specs.Job.{Job}
+use Rattle.rules.specs.Told.{number_of}
 use Rattle.rules.specs.Reading.{first_fault, kind_fault, order_fault, value_fault, zero_fault, record_fault}
+use Rattle.rules.specs.declared.fault.Fault.{Fault}
 
-pub in_turn : (kind : Kind) (J : Job) (r : List ℕ) {order values zeros later n : ℕ} → kind_fault kind ≡ 0
-    → order ≡ order_fault kind J → values ≡ value_fault kind J r → zeros ≡ zero_fault kind r
-    → later ≡ first_fault values zeros → n ≡ first_fault order later → n ≡ record_fault kind J r
-unfolding record_fault first_fault
-in_turn kind J r known o v z l n =
-    n ∙ ap₂ first_fault o (l ∙ ap₂ first_fault v z)
-    ∙ ap (λ k. first_fault k (first_fault (order_fault kind J) (first_fault (value_fault kind J r) (zero_fault kind r))))
-    (sym known)
+pub decides : (fault : Fault) (n later : ℕ) → number_of fault ≡ n → number_of fault ≡ first_fault n later
+unfolding first_fault
+decides fault n later e = search rules
+
+pub passes : (n later m : ℕ) → 0 ≡ n → m ≡ later → m ≡ first_fault n later
+unfolding first_fault
+passes n later m e q = q ∙ ap (λ k. first_fault k later) e
+
+-- A record of known kind: its fault is found among its order, then its values, then its zero bytes.
+module _ (kind : Kind) (J : Job) (r : List ℕ) (known : kind_fault kind ≡ 0) where
+  pub at_order : (fault : Fault) → number_of fault ≡ order_fault kind J → number_of fault ≡ record_fault kind J r
+  unfolding record_fault
+  at_order fault o = passes _ _ _ (sym known) (decides fault _ _ o)
+
+  module _ (fine : 0 ≡ order_fault kind J) where
+    pub at_values : (fault : Fault) → number_of fault ≡ value_fault kind J r → number_of fault ≡ record_fault kind J r
+    unfolding record_fault
+    at_values fault v = passes _ _ _ (sym known) (passes _ _ _ fine (decides fault _ _ v))
+
+    pub at_zeros : (n : ℕ) → 0 ≡ value_fault kind J r → n ≡ zero_fault kind r → n ≡ record_fault kind J r
+    unfolding record_fault
+    at_zeros n v z = passes _ _ _ (sym known) (passes _ _ _ fine (passes _ _ _ v z))

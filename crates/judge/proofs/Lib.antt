@@ -1,3 +1,2 @@
 -- The laws of the judgements, for the proofs of this crate and of those above it.
-pub mod Zeros
 pub mod InTurn

@@ -3,7 +3,14 @@
 // these.
 #![tactic(auto)]
 
-pub mod faults;
+pub mod entry;
 pub mod fields;
-pub mod parts;
+pub mod kinds;
 pub mod values;
+
+/// How many pieces and links stand before a record: all that its judgement looks at of what was read before it.
+#[derive(Clone, Copy, Debug, Default, PartialEq, Eq)]
+pub struct Counts {
+    pub pieces: usize,
+    pub links: usize,
+}

@@ -2,28 +2,38 @@
 // of a file and the rows of a form.
 ghost use Rattle.std.specs.Prelude.{◌≡◌};
 ghost use Rattle.rules.specs.Reading.{piece_fault, link_fault};
+ghost use Rattle.rules.specs.Told.{fault_of};
 ghost use Rattle.judge.specs.Values.{piece_with, link_with};
 
-use crate::parts::{NONE, Test, first_found};
+use rules::fault::Fault;
 
-// The values of a piece: 5, 6, 7.
-pub fn piece_fault(desk: u32, duration: u32, release: u32, due: u32) -> u8
-    ensures { result ≡ piece_fault (piece_with desk duration release due) }
+/// The values of a piece.
+#[tactic(auto, unfolding(rules::specs::Reading::piece_fault, rules::specs::Words::when))]
+pub fn piece_fault(desk: u32, duration: u32, release: u32, due: u32) -> Result<(), Fault>
+    ensures { fault_of result ≡ piece_fault (piece_with desk duration release due) }
 {
-    first_found(
-        Test(31 < desk, 5),
-        Test((duration == 0) | (960 < duration), 6),
-        Test((40000 < release) | (40000 < due), 7),
-    )
+    if 31 < desk {
+        return Err(Fault::Desk);
+    }
+    if duration == 0 || 960 < duration {
+        return Err(Fault::Duration);
+    }
+    if 40000 < release || 40000 < due {
+        return Err(Fault::ReleaseOrDue);
+    }
+    Ok(())
 }
 
-// The values of a link with so many pieces read before it: 9, 10.
-pub fn link_fault(pieces: usize, before: u32, after: u32, handover: u32) -> u8
-    ensures { result ≡ link_fault pieces (link_with before after handover) }
+/// The values of a link with so many pieces read before it.
+#[tactic(auto, unfolding(rules::specs::Reading::link_fault, rules::specs::Words::when))]
+pub fn link_fault(pieces: usize, before: u32, after: u32, handover: u32) -> Result<(), Fault>
+    ensures { fault_of result ≡ link_fault pieces (link_with before after handover) }
 {
-    first_found(
-        Test((pieces <= before as usize) | (pieces <= after as usize), 9),
-        Test(480 < handover, 10),
-        NONE,
-    )
+    if pieces <= before as usize || pieces <= after as usize {
+        return Err(Fault::NoSuchPiece);
+    }
+    if 480 < handover {
+        return Err(Fault::Handover);
+    }
+    Ok(())
 }
