@@ -3,12 +3,15 @@
 // plain.
 ghost use Rattle.std.specs.Prelude.{◌≡◌};
 ghost use Rattle.rules.specs.Reading.{item_at};
+ghost use Rattle.rules.specs.Told.{item_of};
 ghost use Rattle.judge.specs.Says.{Says};
 
 use crate::items::item_at;
-use rules::Item;
+use judge::Counts;
+use rules::Record;
+use rules::fault::Refusal;
 
-// The lent file, and how many of its records are behind.
+/// The lent file, and how many of its records are behind.
 #[derive(Clone, Copy)]
 pub struct Reader<'a> {
     pub file: &'a [u8],
@@ -16,14 +19,14 @@ pub struct Reader<'a> {
 }
 
 impl<'a> Reader<'a> {
-    // A reader at the file's first record.
+    /// A reader at the file's first record.
     pub fn new(file: &'a [u8]) -> Reader<'a>
         ensures { (result.file ≡ file.entry) × (result.at ≡ 0) }
     {
         Reader { file, at: 0 }
     }
 
-    // The same file at another record.
+    /// The same file at another record.
     pub fn moved(self, at: usize) -> Reader<'a>
         ensures { (result.file ≡ self.entry.file) × (result.at ≡ at) }
     {
@@ -33,17 +36,18 @@ impl<'a> Reader<'a> {
         }
     }
 
-    // The record or refusal at the reader's place, with so many pieces and links read before it.
-    pub fn next(self, pieces: usize, links: usize) -> Item
-        ensures { Says pieces links result (item_at self.entry.file.now self.entry.at) }
+    /// The record or refusal at the reader's place, with so many pieces and links read before it; `None` at the file's
+    /// end.
+    pub fn next(self, before: Counts) -> Result<Option<Record>, Refusal>
+        ensures { Says before (item_of result) (item_at self.entry.file.now self.entry.at) }
     {
-        item_at(self.file, self.at, pieces, links)
+        item_at(self.file, self.at, before)
     }
 }
 
-// Record k of a file, by a reader that is placed there.
-pub fn item(file: &[u8], k: usize, pieces: usize, links: usize) -> Item
-    ensures { Says pieces links result (item_at file.now k) }
+/// Record k of a file, by a reader that is placed there; `None` behind its last record.
+pub fn item(file: &[u8], k: usize, before: Counts) -> Result<Option<Record>, Refusal>
+    ensures { Says before (item_of result) (item_at file.now k) }
 {
-    Reader::new(file).moved(k).next(pieces, links)
+    Reader::new(file).moved(k).next(before)
 }
