@@ -1,8 +1,4 @@
--- The laws of a job file read whole: a job out of tables, the rest of a reading, and what the stations behind the
--- reader have of its answer.
-pub mod Tables
+-- The laws of a job file read whole: the rest of a reading, what its loop keeps, and the places of its refusals.
 pub mod Rest
 pub mod Taken
-pub mod Answers
 pub mod Refusals
-pub mod Callers

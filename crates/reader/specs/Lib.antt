@@ -1,5 +1,3 @@
 -- What the contracts of the reading of a whole file cite besides the rules.
-pub mod Sizes
-pub mod Entries
 pub mod Rest
 pub mod Outcome

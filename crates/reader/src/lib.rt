@@ -1,111 +1,69 @@
-// A whole job file read into lent tables, or the first refusal met: one record at a time, each into the tables of its
-// kind, until a refusal or the end of the file. The reader of one record is asked at one place only, so that whatever
-// it judges is compiled into the loop.
+// A whole job file read into a job, or the first refusal met: one record at a time, each behind the others of its kind,
+// until a refusal or the end of the file. The reader of one record is asked at one place only, so that whatever it
+// judges is compiled into the loop.
 #![tactic(auto)]
 
-ghost use Rattle.std.specs.Prelude.{◌<◌, ◌≡◌};
-ghost use Rattle.reader.specs.Sizes.{PieceTables, LinkTables};
-ghost use Rattle.reader.specs.Entries.{PieceEntered, LinkEntered};
-ghost use Rattle.reader.specs.Outcome.{end_of, ReadsJob};
+ghost use Rattle.std.specs.Prelude.{◌≡◌, ◌≤◌, ◌+◌, [], length};
+ghost use Rattle.rules.specs.Reading.{read_job};
+ghost use Rattle.reader.specs.Outcome.{outcome_told};
 
+use arrayvec::ArrayVec;
 use cursor::reading::item;
-use rules::{Item, Link, Piece, Refusal};
+use judge::Counts;
+use rules::fault::Refusal;
+use rules::{Link, Piece, Record};
 
-// The answer: so many pieces and links in the tables, or the refusal.
-#[derive(Clone, Copy)]
-pub enum Read {
-    Job { pieces: usize, links: usize },
-    Refused(Refusal),
+/// A job in fixed memory, with room for as many pieces and links as a file may have.
+#[derive(Debug, Drop)]
+pub struct Job {
+    pub pieces: ArrayVec<Piece, 256>,
+    pub links: ArrayVec<Link, 1024>,
 }
 
-// Piece n into its tables.
-fn enter_piece(
-    p: Piece,
-    n: usize,
-    desks: &mut [u8],
-    durations: &mut [u16],
-    releases: &mut [u32],
-    dues: &mut [u32],
-)
-    requires { (n < 256) × PieceTables desks.old durations.old releases.old dues.old }
-    ensures { PieceEntered p n desks.old durations.old releases.old dues.old
-        desks.new durations.new releases.new dues.new }
-{
-    desks[n] = p.desk;
-    durations[n] = p.duration;
-    releases[n] = p.release;
-    dues[n] = p.due;
-}
+impl Job {
+    /// A job without pieces and links.
+    pub fn new() -> Job
+        ensures no_pieces { result.pieces.items ≡ [] }
+        ensures no_links { result.links.items ≡ [] }
+    {
+        Job {
+            pieces: ArrayVec::new(),
+            links: ArrayVec::new(),
+        }
+    }
 
-// Link m into its tables.
-fn enter_link(l: Link, m: usize, befores: &mut [u16], afters: &mut [u16], handovers: &mut [u16])
-    requires { (m < 1024) × LinkTables befores.old afters.old handovers.old }
-    ensures { LinkEntered l m befores.old afters.old handovers.old befores.new
-        afters.new handovers.new }
-{
-    befores[m] = l.before;
-    afters[m] = l.after;
-    handovers[m] = l.handover;
-}
+    // How many records it is read from: the place of the next one.
+    fn records(&self) -> usize
+        ensures { result ≡ length self.now.pieces.items + length self.now.links.items }
+    {
+        self.pieces.len() + self.links.len()
+    }
 
-// What ends the reading behind so many pieces and links: the refusal, or the job in the tables.
-fn ended(found: Item, pieces: usize, links: usize) -> Read
-    ensures { result ≡ end_of found pieces links }
-{
-    let Item::Stop(refusal) = found else {
-        return Read::Job { pieces, links };
-    };
-    Read::Refused(refusal)
-}
-
-// The records of a file one by one, each into the tables of its kind.
-fn read_records(
-    file: &[u8],
-    desks: &mut [u8],
-    durations: &mut [u16],
-    releases: &mut [u32],
-    dues: &mut [u32],
-    befores: &mut [u16],
-    afters: &mut [u16],
-    handovers: &mut [u16],
-) -> Read
-    requires piece_tables { PieceTables desks.old durations.old releases.old dues.old }
-    requires link_tables { LinkTables befores.old afters.old handovers.old }
-    ensures { ReadsJob file.now result desks.new durations.new releases.new
-        dues.new befores.new afters.new handovers.new }
-{
-    let mut pieces: usize = 0;
-    let mut links: usize = 0;
-    loop {
-        let found = item(file, pieces + links, pieces, links);
-        if let Item::Work(p) = found {
-            enter_piece(p, pieces, desks, durations, releases, dues);
-            pieces += 1;
-        } else {
-            let Item::Tie(l) = found else {
-                return ended(found, pieces, links);
-            };
-            enter_link(l, links, befores, afters, handovers);
-            links += 1;
+    // How many pieces and links it has.
+    fn counts(&self) -> Counts
+        ensures pieces { result.pieces ≡ length self.now.pieces.items }
+        ensures links { result.links ≡ length self.now.links.items }
+    {
+        Counts {
+            pieces: self.pieces.len(),
+            links: self.links.len(),
         }
     }
 }
 
-// A job file into the tables: its job, or the first refusal met.
-pub fn read_job(
-    file: &[u8],
-    desks: &mut [u8; 256],
-    durations: &mut [u16; 256],
-    releases: &mut [u32; 256],
-    dues: &mut [u32; 256],
-    befores: &mut [u16; 1024],
-    afters: &mut [u16; 1024],
-    handovers: &mut [u16; 1024],
-) -> Read
-    ensures { ReadsJob file.now result desks.new durations.new releases.new
-        dues.new befores.new afters.new handovers.new }
+/// A job file into an empty job, or the first refusal met; the job then holds what was read before it.
+pub fn read_job(file: &[u8], job: &mut Job) -> Result<(), Refusal>
+    requires no_pieces { job.old.pieces.items ≡ [] }
+    requires no_links { job.old.links.items ≡ [] }
+    ensures outcome { read_job file.now ≡ outcome_told result job.new }
+    ensures few_pieces { length job.new.pieces.items ≤ 256 }
+    ensures few_links { length job.new.links.items ≤ 1024 }
 {
-    read_records(
-        file, desks, durations, releases, dues, befores, afters, handovers,
-    )
+    while let Some(record) = item(file, job.records(), job.counts())? {
+        match record {
+            Record::Piece(piece) => job.pieces.push(piece),
+            Record::Link(link) => job.links.push(link),
+        }
+    }
+    Ok(())
 }
