@@ -1,6 +1,6 @@
 -- Chains: one key more at the end of its chain leaves the other chains as they are; and a chain is walked from its last
 -- link back, past exactly the links with its key.
-use Prim.Native.Nat.{ℕ, zero, suc, ◌+◌, ◌-◌, ◌≤◌, ◌<◌}
+use Prim.Native.Nat.{ℕ, zero, suc, ◌+◌, ◌≤◌, ◌<◌}
 use mathlib.Core.Bool.{Bool, true, false}
 use mathlib.Core.List.Memᴰ.{head as here}
 use mathlib.Core.List.Memᴰ.{tail as there}
@@ -11,18 +11,19 @@ use native.Mathlib.Numerals.{add-one}
 use native.Mathlib.Omega.{arith}
 use borrow.Author.Tests.{eqb-true, eqb-false, eq-eqb, ne_eqb, ltb-true, ltb-false}
 use lib.Dec.{eqb, ltb}
-use lib.ListN.{get_or, set, length-set}
+use lib.ListN.{length, get_or, set, length-set}
 use lib.Seq.{get_or-set_same, get_or-set_other}
 use Rattle.rules.specs.Words.{when}
 use Rattle.laws.proofs.Words.{by_test, when_true, when_false}
 use Rattle.links.specs.Chains.{last_with, places_with, Chained, ToChain}
 use Rattle.links.proofs.Counting.{below_or_last}
 
-pub chained_none : (keys : List ℕ) (n : ℕ) (last prior : List ℕ) → ToChain keys n last prior → Chained keys 0 last prior
+pub chained_none : (keys : List ℕ) (n : ℕ) (last prior : List ℕ) → ToChain keys n last → length last ≡ 256
+    → length prior ≡ 1024 → Chained keys 0 last prior
 unfolding last_with
-chained_none keys n last prior h = record {
-  last_sized = h.last_sized;
-  prior_sized = h.prior_sized;
+chained_none keys n last prior h last_sized prior_sized = record {
+  last_sized = last_sized;
+  prior_sized = prior_sized;
   ends = h.cleared;
   goes_on = λ k l. absurd (omega arith);
 }
@@ -126,57 +127,54 @@ module _ (keys : List ℕ) (i : ℕ) where
       go true m = there m
       go false m = m
 
--- A walk along the chain of i, before the link at place `at - 1`: the links of i from `bound` on are behind it.
+-- A walk along the chain of i, before the link of the code `at`: the links of i from `bound` on are behind it.
 pub record OnChain (keys : List ℕ) (i n at bound : ℕ) : Type 0 where
   pub within : bound ≤ n
   pub here_is : at ≡ last_with keys i bound
 
-module _ (keys : List ℕ) (n : ℕ) (last prior : List ℕ) (C : Chained keys n last prior) (i : ℕ) where
-  pub chain_start : i < 256 → OnChain keys i n (get_or last i 0) n
-  chain_start small = record { within = omega arith; here_is = C.ends i small }
+module _ {keys : List ℕ} {n : ℕ} {last prior : List ℕ} (C : Chained keys n last prior) {i : ℕ} where
+  pub chain_start : (at : ℕ) → at ≡ get_or last i 0 → i < 256 → OnChain keys i n at n
+  chain_start at e small = record { within = omega arith; here_is = e ∙ C.ends i small }
 
-  module _ (at bound : ℕ) (W : OnChain keys i n at bound) where
-    pub on_most : at ≤ n
-    on_most = omega (arith, W.here_is, W.within, chain_most keys i bound)
+  pub on_most : {at bound : ℕ} → OnChain keys i n at bound → at ≤ n
+  on_most {at} {bound} W = omega (arith, W.here_is, W.within, chain_most keys i bound)
 
-    pub on_end : at ≡ 0 → places_with keys i bound ≡ []
-    on_end e = chain_end keys i bound (sym W.here_is ∙ e)
+  -- At the end of the chain all links of i are behind.
+  module _ {bound : ℕ} (W : OnChain keys i n 0 bound) where
+    pub on_end : places_with keys i bound ≡ []
+    on_end = chain_end keys i bound (sym W.here_is)
 
-    -- At its end all links of i are behind it.
-    pub on_last : at ≡ 0 → (j : ℕ) → get_or keys j 0 ≡ i → bound ≤ j
-    on_last e j k = by_test (ltb j bound)
-        (λ l. no_place (rw (on_end e) at (key_places keys i bound j (ltb-true j bound l) k)))
+    pub on_last : (j : ℕ) → get_or keys j 0 ≡ i → bound ≤ j
+    on_last j k = by_test (ltb j bound)
+        (λ l. no_place (rw on_end at (key_places keys i bound j (ltb-true j bound l) k)))
         (λ l. ltb-false j bound l)
       where
         no_place : Mem j [] → bound ≤ j
         no_place m = elim m [ ]
 
-    -- At a link: it is one of i's, and the first of those that are left.
-    module _ (on : at ≡ 0 → ⊥) where
-      found : last_with keys i bound ≡ suc (at - 1)
-      found = omega (arith, W.here_is)
+  -- At link k: it is one of i's, and the first of those that are left.
+  module _ {k bound : ℕ} (W : OnChain keys i n (suc k) bound) where
+    pub on_link : (k < n) × (get_or keys k 0 ≡ i)
+    on_link = let w = chain_key keys i bound k (sym W.here_is) in (omega (arith, w.0, W.within), w.1)
 
-      pub on_link : (at - 1 < n) × (get_or keys (at - 1) 0 ≡ i)
-      on_link = let w = chain_key keys i bound (at - 1) found in (omega (arith, w.0, W.within), w.1)
+    pub on_first : places_with keys i bound ≡ k ∷ places_with keys i k
+    on_first = chain_next keys i bound k (sym W.here_is)
 
-      pub on_first : places_with keys i bound ≡ (at - 1) ∷ places_with keys i (at - 1)
-      on_first = chain_next keys i bound (at - 1) found
+    next : get_or prior k 0 ≡ last_with keys i k
+    next = C.goes_on k on_link.0 ∙ ap (λ x. last_with keys x k) on_link.1
 
-      next : get_or prior (at - 1) 0 ≡ last_with keys i (at - 1)
-      next = C.goes_on (at - 1) on_link.0 ∙ ap (λ x. last_with keys x (at - 1)) on_link.1
+    pub on_falls : get_or prior k 0 < suc k
+    on_falls = omega (arith, next, chain_most keys i k)
 
-      pub on_falls : get_or prior (at - 1) 0 < at
-      on_falls = omega (arith, next, chain_most keys i (at - 1))
+    pub on_next : (at : ℕ) → at ≡ get_or prior k 0 → OnChain keys i n at k
+    on_next at e = record { within = omega (arith, on_link.0); here_is = e ∙ next }
 
-      pub on_next : OnChain keys i n (get_or prior (at - 1) 0) (at - 1)
-      on_next = record { within = omega (arith, on_link.0); here_is = next }
-
-      -- Of the links of i that are not further on, it is the only one not behind.
-      pub on_or_behind : (j : ℕ) → get_or keys j 0 ≡ i → at - 1 ≤ j → (j ≡ at - 1) ⊎ (bound ≤ j)
-      on_or_behind j k h = by_test (ltb j bound)
-          (λ l. inl (first (rw on_first at (key_places keys i bound j (ltb-true j bound l) k))))
-          (λ l. inr (ltb-false j bound l))
-        where
-          first : Mem j ((at - 1) ∷ places_with keys i (at - 1)) → j ≡ at - 1
-          first (here e) = e
-          first (there m) = absurd (omega (arith, h, (places_key keys i (at - 1) j m).0))
+    -- Of the links of i that are not further on, it is the only one not behind.
+    pub on_or_behind : (j : ℕ) → get_or keys j 0 ≡ i → k ≤ j → (j ≡ k) ⊎ (bound ≤ j)
+    on_or_behind j e h = by_test (ltb j bound)
+        (λ l. inl (first (rw on_first at (key_places keys i bound j (ltb-true j bound l) e))))
+        (λ l. inr (ltb-false j bound l))
+      where
+        first : Mem j (k ∷ places_with keys i k) → j ≡ k
+        first (here e) = e
+        first (there m) = absurd (omega (arith, h, (places_key keys i k j m).0))

@@ -11,7 +11,11 @@ use lib.ListN.{length, get_or, length-map}
 use Rattle.rules.specs.Words.{one_of, below}
 use Rattle.rules.specs.Job.{Job, piece_count, piece, no_piece}
 use Rattle.rules.specs.Rings.{linked_by, linked, lowest_on_ring, ring_piece}
-use Rattle.rules.specs.Tables.{piece_in, link_in, links_in, pieces_in, job_in, Sound, no_link}
+use Rattle.rules.specs.Tables.{piece_in, link_in, links_in, pieces_in, job_in, job_of, Sound, no_link}
+use Rattle.rules.specs.Tables.{desks_of, durations_of, releases_of, dues_of, befores_of, afters_of, handovers_of}
+use Rattle.rules.specs.declared.Piece.{Piece}
+use Rattle.rules.specs.declared.Link.{Link}
+use Rattle.laws.proofs.Columns.{job_in-columns}
 use Rattle.laws.proofs.Words.{and_true, and_intro, one_of_found, one_of_intro}
 use Rattle.laws.proofs.Words.{mem_below, below_mem, length-below, get_or-below}
 use Rattle.laws.proofs.Sound.{LinkFits, link_fits}
@@ -94,3 +98,14 @@ module _ (n m : ℕ) (desks durations releases dues befores afters handovers : L
     before_one = λ k l. (link_here sound k l).before_one;
     after_one = λ k l. (link_here sound k l).after_one;
   }
+
+-- The same of the job of these pieces and links.
+module _ (ps : List Piece) (ls : List Link) where
+  pub job_of_ring : ring_piece (job_of ps ls)
+      ≡ lowest_on_ring (follows (length ls) (befores_of ls) (afters_of ls)) (length ps)
+  job_of_ring = rw (job_in-columns ps ls) at (job_ring (length ps) (length ls) (desks_of ps) (durations_of ps)
+      (releases_of ps) (dues_of ps) (befores_of ls) (afters_of ls) (handovers_of ls))
+
+  pub job_of_ties : Sound (job_of ps ls) → Ties (length ps) (length ls) (befores_of ls) (afters_of ls)
+  job_of_ties sound = job_ties (length ps) (length ls) (desks_of ps) (durations_of ps) (releases_of ps) (dues_of ps)
+      (befores_of ls) (afters_of ls) (handovers_of ls) (rw (job_in-columns ps ls) sound)

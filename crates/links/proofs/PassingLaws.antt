@@ -10,13 +10,13 @@ use lib.Dec.{eqb, ltb}
 use lib.ListN.{get_or}
 use Rattle.rules.specs.Words.{when}
 use Rattle.laws.proofs.Words.{by_test, true_or_false, or_true, or_left, or_right, and_true, and_intro}
-use Rattle.links.specs.Chains.{last_with}
-use Rattle.links.specs.Links.{links_between}
-use Rattle.links.specs.Queue.{Queue, Passed, among, links_from_first, Net, FirstPassed}
+use Rattle.links.specs.Chains.{last_with, Chained}
+use Rattle.links.specs.Links.{Ties, links_between}
+use Rattle.links.specs.Queue.{Queue, Passed, among, links_from_first, FirstPassed}
 use Rattle.links.proofs.ChainLaws.{chain_skip, OnChain, chain_start, on_most, on_link, on_falls, on_next}
 use Rattle.links.proofs.Counting.{below_or_last, counted_same, counted_le, counted_none, counted_split}
 
--- On the way along the chain of piece i, before the link at place `at - 1`: what is left to pass there makes it whole.
+-- On the way along the chain of piece i, before the link of the code `at`: what is left to pass there makes it whole.
 pub record Walking (n m : ℕ) (befores afters : List ℕ) (i t : ℕ) (order waits : List ℕ)
     (at r : ℕ) (order₂ waits₂ : List ℕ) : Type 0 where
   pub bound : ℕ
@@ -44,58 +44,59 @@ between_own befores afters i j k h = by_test (eqb j (get_or afters k 0))
     (λ e. let no : get_or afters k 0 ≡ j → ⊥ = λ q. eqb-false j (get_or afters k 0) e (sym q) in
     rw (eq-eqb (get_or befores k 0) i h, ne_eqb (get_or afters k 0) j no, e))
 
-module _ (afters last prior : List ℕ) (N : Net afters last prior) (i t : ℕ) (order waits : List ℕ) where
+module _ {n m : ℕ} {befores afters last prior : List ℕ} (T : Ties n m befores afters) (C : Chained befores m last prior)
+    (i t : ℕ) (order waits : List ℕ) where
   abbrev Walk : ℕ → ℕ → List ℕ → List ℕ → Type 0
-  Walk = Walking N.pieces N.links N.befores afters i t order waits
+  Walk = Walking n m befores afters i t order waits
 
-  pub walk_start : i < N.pieces → Queue N.pieces t order waits → Walk (get_or last i 0) t order waits
-  walk_start one Q =
-      let first = chain_start N.befores N.links last prior N.chained i (omega (arith, N.ties.few_pieces)) in
+  pub walk_start : (at : ℕ) → at ≡ get_or last i 0 → i < n → Queue n t order waits → Walk at t order waits
+  walk_start at e one Q =
+      let first = chain_start C at e (omega (arith, one, T.few_pieces)) in
       record {
-        bound = N.links;
+        bound = m;
         chain = first;
-        place = on_most N.befores N.links last prior N.chained i _ _ first;
+        place = on_most C first;
         queue = Q;
         more = omega arith;
         kept = λ q l. refl;
-        rest = λ j l. rw first.here_is (ap (λ x. get_or waits j 0 - x) (between_skip N.befores afters i j N.links));
+        rest = λ j l. rw first.here_is (ap (λ x. get_or waits j 0 - x) (between_skip befores afters i j m));
       }
 
-  -- At a link: it is one of the links, it leads to a piece, and the next on the chain stands at a lower place.
-  module _ (at r : ℕ) (order₂ waits₂ : List ℕ) (W : Walk at r order₂ waits₂) (on : at ≡ 0 → ⊥) where
-    here : (at - 1 < N.links) × (get_or N.befores (at - 1) 0 ≡ i)
-    here = on_link N.befores N.links last prior N.chained i at W.bound W.chain on
+  -- At link k: it is one of the links, it leads to a piece, and the next on the chain stands at a lower place.
+  module _ {k r : ℕ} {order₂ waits₂ : List ℕ} (W : Walk (suc k) r order₂ waits₂) where
+    here : (k < m) × (get_or befores k 0 ≡ i)
+    here = on_link C W.chain
 
-    pub walk_link : get_or afters (at - 1) 0 < N.pieces
-    walk_link = N.ties.after_one (at - 1) here.0
+    pub walk_place : k < m
+    walk_place = here.0
 
-    pub walk_falls : get_or prior (at - 1) 0 < at
-    walk_falls = on_falls N.befores N.links last prior N.chained i at W.bound W.chain on
+    pub walk_link : get_or afters k 0 < n
+    walk_link = T.after_one k here.0
 
-    onward : OnChain N.befores i N.links (get_or prior (at - 1) 0) (at - 1)
-    onward = on_next N.befores N.links last prior N.chained i at W.bound W.chain on
+    pub walk_falls : get_or prior k 0 < suc k
+    walk_falls = on_falls C W.chain
 
-    pub walk_on : (r₃ : ℕ) (order₃ waits₃ : List ℕ)
-        → Passed N.pieces r (λ x. when (eqb x (get_or afters (at - 1) 0)) 1 0) order₂ waits₂ r₃ order₃ waits₃
-        → Walk (get_or prior (at - 1) 0) r₃ order₃ waits₃
-    walk_on r₃ order₃ waits₃ P = record {
-      bound = at - 1;
-      chain = onward;
-      place = on_most N.befores N.links last prior N.chained i _ _ onward;
-      queue = P.queue;
-      more = omega (arith, W.more, P.more);
-      kept = λ q l. P.kept q (omega (arith, W.more)) ∙ W.kept q l;
-      rest = λ j l.
-          let z : at ≡ suc (at - 1) = omega arith in
-          let before = ap (λ x. get_or waits₂ j 0 - links_between x N.befores afters i j) (sym z) ∙ W.rest j l in
-          rw (onward.here_is, between_skip N.befores afters i j (at - 1))
-          (omega (arith, P.lowered j l, before, between_own N.befores afters i j (at - 1) here.1));
-    }
+    pub walk_on : {r₃ : ℕ} {order₃ waits₃ : List ℕ} (at : ℕ) → at ≡ get_or prior k 0
+        → Passed n r (λ x. when (eqb x (get_or afters k 0)) 1 0) order₂ waits₂ r₃ order₃ waits₃
+        → Walk at r₃ order₃ waits₃
+    walk_on at e P =
+        let next = on_next C W.chain at e in
+        record {
+          bound = k;
+          chain = next;
+          place = on_most C next;
+          queue = P.queue;
+          more = omega (arith, W.more, P.more);
+          kept = λ q l. P.kept q (omega (arith, W.more)) ∙ W.kept q l;
+          rest = λ j l.
+              rw (next.here_is, between_skip befores afters i j k)
+              (omega (arith, P.lowered j l, W.rest j l, between_own befores afters i j k here.1));
+        }
 
-  pub walk_end : (r : ℕ) (order₂ waits₂ : List ℕ) → Walk 0 r order₂ waits₂
-      → Passed N.pieces t (links_between N.links N.befores afters i) order waits r order₂ waits₂
+  pub walk_end : {r : ℕ} {order₂ waits₂ : List ℕ} → Walk 0 r order₂ waits₂
+      → Passed n t (links_between m befores afters i) order waits r order₂ waits₂
   unfolding links_between
-  walk_end r order₂ waits₂ W = record {
+  walk_end W = record {
     queue = W.queue;
     more = W.more;
     kept = W.kept;

@@ -5,7 +5,7 @@ use Prim.Native.Nat.{ℕ, zero, suc, ◌≤◌, ◌<◌}
 use mathlib.Core.Bool.{Bool, true, false, ◌&&◌}
 use mathlib.Core.List.{List}
 use mathlib.Core.Option.{Option, none, some}
-use mathlib.Core.Path.{◌≡◌, refl, sym, ap, ◌∙◌}
+use mathlib.Core.Path.{◌≡◌, refl, sym, ◌∙◌}
 use native.Mathlib.Omega.{arith}
 use borrow.Author.Tests.{eqb-true, eqb-false, eq-eqb, ne_eqb, ltb-true, ltb-false}
 use lib.Dec.{eqb, ltb}
@@ -14,10 +14,8 @@ use Rattle.rules.specs.Rings.{via, lowest_on_ring}
 use Rattle.laws.specs.Leads.{Leads, direct, onward}
 use Rattle.laws.proofs.Words.{by_test, true_or_false, and_true, and_intro}
 use Rattle.laws.proofs.Rings.{via-leads, leads-via, leads_on, ring_free, along_before}
-use Rattle.links.specs.Chains.{Chained}
 use Rattle.links.specs.Links.{Ties, follows, links_to, links_between, InOrder}
-use Rattle.links.specs.Queue.{Queue, Passed, among, links_from_first, Net, CountedTo, FirstPassed}
-use Rattle.links.specs.Rings.{Placed, ToFind, Lowest}
+use Rattle.links.specs.Queue.{Queue, Passed, among, links_from_first, CountedTo, FirstPassed}
 use Rattle.links.proofs.Counting.{counted_le, counted_lt, counted_all, some-counted, all_counted}
 use Rattle.links.proofs.LinkLaws.{follows_link, link_follows, follows_inside}
 use Rattle.links.proofs.QueueLaws.{queue_most}
@@ -91,9 +89,9 @@ module _ (m : ℕ) (befores afters : List ℕ) (i j : ℕ) where
       )
 
 -- Each piece waits for all links into it, and all are passed from what is placed.
-module _ (n m : ℕ) (befores afters : List ℕ) (T : Ties n m befores afters) (t : ℕ) (order₀ waits₀ : List ℕ)
+module _ {n m : ℕ} {befores afters : List ℕ} (T : Ties n m befores afters) {t : ℕ} {order₀ waits₀ : List ℕ}
     (Q : Queue n t order₀ waits₀) (C : CountedTo m afters waits₀)
-    (r : ℕ) (order waits : List ℕ) (F : FirstPassed n m befores afters t order₀ waits₀ r r order waits) where
+    {r : ℕ} {order waits : List ℕ} (F : FirstPassed n m befores afters t order₀ waits₀ r r order waits) where
   counts : (j : ℕ) → j < n → get_or waits₀ j 0 ≡ links_to m afters j
   counts j l = C.counts j (omega (arith, T.few_pieces))
 
@@ -115,7 +113,7 @@ module _ (n m : ℕ) (befores afters : List ℕ) (T : Ties n m befores afters) (
       among_found order q (get_or befores k 0)
       (all_from m befores afters order q (get_or order q 0) (complete q o) k l (sym e))
 
-  all_placed : r ≡ n → InOrder n m befores afters order
+  pub all_placed : r ≡ n → InOrder n m befores afters order
   all_placed whole = record {
     sized = F.passed.queue.order_sized;
     inside = λ p l. F.passed.queue.inside p (omega arith);
@@ -158,20 +156,14 @@ module _ (n m : ℕ) (befores afters : List ℕ) (T : Ties n m befores afters) (
           ))
       go (some w) e = (w, e)
 
-  pub pieces_placed : (last prior : List ℕ) → Chained befores m last prior
-      → Placed n m befores afters last prior order r
-  pieces_placed last prior chains = record {
-    chained = chains;
-    sized = F.passed.queue.order_sized;
-    whole = all_placed;
-    short = λ e. some_left (omega (arith, queue_most n r order waits F.passed.queue));
-  }
+  pub placed_short : (r ≡ n → ⊥) → (w : ℕ) × (lowest_on_ring (follows m befores afters) n ≡ some w)
+  placed_short e = some_left (omega (arith, queue_most n r order waits F.passed.queue))
 
 -- Each piece waits for one link; first the links from piece i are passed, then all from what is placed.
-module _ (n m : ℕ) (befores afters : List ℕ) (T : Ties n m befores afters) (i : ℕ)
-    (order₀ waits₀ : List ℕ) (ones : (j : ℕ) → j < n → get_or waits₀ j 0 ≡ 1)
-    (t : ℕ) (order₁ waits₁ : List ℕ) (P : Passed n 0 (links_between m befores afters i) order₀ waits₀ t order₁ waits₁)
-    (r : ℕ) (order waits : List ℕ) (F : FirstPassed n m befores afters t order₁ waits₁ r r order waits) where
+module _ {n m : ℕ} {befores afters : List ℕ} (T : Ties n m befores afters) (i : ℕ)
+    {order₀ waits₀ : List ℕ} (ones : (j : ℕ) → j < n → get_or waits₀ j 0 ≡ 1)
+    {s t : ℕ} {order₁ waits₁ : List ℕ} (P : Passed n s (links_between m befores afters i) order₀ waits₀ t order₁ waits₁)
+    {r : ℕ} {order waits : List ℕ} (F : FirstPassed n m befores afters t order₁ waits₁ r r order waits) where
   abbrev Follows : ℕ → ℕ → Bool
   Follows = follows m befores afters
 
@@ -232,20 +224,3 @@ module _ (n m : ℕ) (befores afters : List ℕ) (T : Ties n m befores afters) (
       let w = F.passed.queue.everyone i one z in
       let led : Leads (follows m befores afters) i i = rw w.2 at (placed_led r w.0 w.1 w.1) in
       true_or_false (sym (leads-via Follows n (follows_inside m befores afters n T) led) ∙ e)) ∙ sym e)
-
--- The chains of links between pieces.
-abbrev pub net_of : {n m : ℕ} {befores afters last prior : List ℕ} → Ties n m befores afters
-    → Chained befores m last prior → Net afters last prior
-net_of {n} {m} {befores} T C = record { pieces = n; links = m; befores = befores; ties = T; chained = C }
-
--- Not all are placed: the lowest piece on a ring is there, and what finds it finds the answer.
-module _ {n m : ℕ} {befores afters last prior order : List ℕ} {r : ℕ} (T : Ties n m befores afters)
-    (P : Placed n m befores afters last prior order r) (short : r ≡ n → ⊥) where
-  pub to_find : ToFind afters last prior order
-  to_find =
-      record { net = net_of T P.chained; lowest = (P.short short).0; there = (P.short short).1; sized = P.sized }
-
-  pub short_found : (i : ℕ) → Lowest afters last prior i → some i ≡ lowest_on_ring (follows m befores afters) n
-  short_found i h =
-      let w = P.short short in
-      ap some (h (net_of T P.chained) w.0 w.1) ∙ sym w.1

@@ -13,12 +13,13 @@ use Rattle.rules.specs.Words.{when}
 use Rattle.laws.proofs.Words.{by_test}
 use Rattle.links.specs.Links.{counted, links_to}
 use Rattle.links.specs.Queue.{Queue, Passed, ToCount, CountedTo, ToPassOne}
+use Rattle.links.specs.declared.queue.Placing.{Placing}
 use Rattle.links.proofs.Counting.{counted_none, counted_same, counted_one, counted_most, below_or_last}
 
 -- Links into each piece: none yet, one more, and no more than were looked at.
-pub count_none : (m : ℕ) (afters waits : List ℕ) → ToCount m afters waits → CountedTo 0 afters waits
+pub count_none : (m : ℕ) (afters waits : List ℕ) → ToCount m afters waits → length waits ≡ 256 → CountedTo 0 afters waits
 unfolding links_to
-count_none m afters waits h = record { sized = h.sized; counts = h.cleared }
+count_none m afters waits h sized = record { sized = sized; counts = h.cleared }
 
 pub count_more : (k : ℕ) (afters waits : List ℕ) → CountedTo k afters waits → get_or afters k 0 < 256
     → CountedTo (k + 1) afters (set waits (get_or afters k 0) (get_or waits (get_or afters k 0) 0 + 1))
@@ -226,9 +227,9 @@ module _ (n t j : ℕ) (order waits : List ℕ) (Q : Queue n t order waits) (one
     lowered = lowered_one;
   }
 
-pub room_for_one : (j t : ℕ) (order waits : List ℕ) → ToPassOne j t order waits → get_or waits j 0 ≡ 1 → t < 256
-room_for_one j t order waits A w =
-    omega (arith, passed_room A.pieces t j order waits A.queue A.one A.few w, A.few)
+pub room_for_one : (j : ℕ) (q : Placing) → ToPassOne j q → get_or q.waits j 0 ≡ 1 → q.placed < 256
+room_for_one j q A w =
+    omega (arith, passed_room A.pieces q.placed j q.order q.waits A.queue A.one A.few w, A.few)
 
 -- The same two steps in the numbers of the code, for a turn that finds its goal by itself.
 pub queue_takes : (n t : ℕ) (order waits : List ℕ) → Queue n t order waits → n < 256 → get_or waits n 0 ≡ 0

@@ -1,20 +1,20 @@
 -- Rings and orders: where no piece leads to itself no ring is found; pieces in order have no ring; and the search for the
 -- lowest piece on a ring, one piece after the other, does not pass it.
-use Prim.Native.Nat.{ℕ, ◌≤◌, ◌<◌}
-use mathlib.Core.Bool.{Bool, true, false, not}
+use Prim.Native.Nat.{ℕ, zero, suc, ◌+◌, ◌≤◌, ◌<◌}
+use mathlib.Core.Bool.{Bool, true, false}
 use mathlib.Core.List.Memᴰ.{head as here}
 use mathlib.Core.List.{List, [], ◌∷◌, Memᴰ as Mem}
 use mathlib.Core.Option.{none, some}
 use mathlib.Core.Path.{◌≡◌, refl, sym, ap, ◌∙◌}
 use native.Mathlib.Omega.{arith}
-use borrow.Author.Tests.{ltb-true, ltb-false, not-true, not-false}
-use lib.Dec.{ltb}
+use borrow.Author.Tests.{eqb-true, eqb-false}
+use lib.Dec.{eqb}
 use lib.ListN.{get_or}
-use Rattle.rules.specs.Words.{when, below}
+use Rattle.rules.specs.Words.{when, row, below}
 use Rattle.rules.specs.Rings.{via, first_on_ring, lowest_on_ring}
 use Rattle.laws.specs.Leads.{Leads, direct, onward}
-use Rattle.laws.proofs.Words.{by_test, true_or_false, on_tail, mem_below}
-use Rattle.laws.proofs.Rings.{via-leads, ring_found}
+use Rattle.laws.proofs.Words.{by_test, on_tail, mem_below}
+use Rattle.laws.proofs.Rings.{via-leads}
 use Rattle.links.specs.Links.{Ties, follows, InOrder}
 use Rattle.links.proofs.LinkLaws.{follows_link, follows_inside}
 
@@ -30,21 +30,20 @@ pub free_ring : (follows : ℕ → ℕ → Bool) (n : ℕ) → ((i : ℕ) → i 
 unfolding lowest_on_ring
 free_ring follows n h = none_found follows n (below n) (λ i m. h i (mem_below n i m))
 
--- Not past the lowest piece on a ring: it is a piece; a piece that leads to itself is it, and any other is below it.
-module _ (follows : ℕ → ℕ → Bool) (n i w : ℕ) (there : lowest_on_ring follows n ≡ some w) (near : i ≤ w) where
-  pub ring_near : i < n
-  ring_near = omega (arith, (ring_found follows n w there).0)
+-- The first that leads to itself is the lowest on a ring.
+first_found : (follows : ℕ → ℕ → Bool) (n k a i : ℕ) → a ≤ i → i < a + k → via follows n i i ≡ true
+    → ((j : ℕ) → a ≤ j → j < i → via follows n j j ≡ false) → first_on_ring follows n (row a k) ≡ some i
+unfolding first_on_ring row when
+first_found follows n zero a i l m on before = absurd (omega arith)
+first_found follows n (suc k) a i l m on before = by_test (eqb a i)
+    (λ t. let e : a ≡ i = eqb-true a i t in rw (ap (λ x. via follows n x x) e ∙ on) (ap some e))
+    (λ t. let e : a ≡ i → ⊥ = eqb-false a i t in rw (before a (omega arith) (omega arith))
+    (first_found follows n k (suc a) i (omega arith) (omega arith) on (λ j p q. before j (omega arith) q)))
 
-  pub ring_here : (r : Bool) → r ≡ via follows n i i → not r ≡ false → i ≡ w
-  ring_here r e back = by_test (ltb i w)
-      (λ l. true_or_false (sym (not-false r back) ∙ e ∙ (ring_found follows n w there).2 i (ltb-true i w l)))
-      (λ l. omega (arith, ltb-false i w l))
-
-  pub ring_further : (r : Bool) → r ≡ via follows n i i → not r ≡ true → i < w
-  ring_further r e back = by_test (ltb i w)
-      (λ l. ltb-true i w l)
-      (λ l. let q : w ≡ i = omega (arith, ltb-false i w l) in
-      true_or_false (sym (ring_found follows n w there).1 ∙ ap (λ x. via follows n x x) q ∙ sym e ∙ not-true r back))
+pub ring_first : (follows : ℕ → ℕ → Bool) (n i : ℕ) → i < n → via follows n i i ≡ true
+    → ((j : ℕ) → j < i → via follows n j j ≡ false) → lowest_on_ring follows n ≡ some i
+unfolding lowest_on_ring below
+ring_first follows n i l on before = first_found follows n n 0 i (omega arith) (omega (arith, l)) on (λ j p q. before j q)
 
 -- Pieces in order: places rise along links, so no piece leads to itself.
 module _ (n m : ℕ) (befores afters order : List ℕ) (T : Ties n m befores afters)

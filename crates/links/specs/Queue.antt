@@ -1,9 +1,13 @@
 -- Pieces placed in a queue as soon as nothing is left that they wait for. The ring check lets a piece wait for each
 -- link into it; the search for a ring lets it wait for one. Passing on is the same for both.
 use Rattle.std.specs.Prelude.{ℕ, zero, suc, ◌-◌, ◌≤◌, ◌<◌, Bool, false, ◌&&◌, ◌||◌, List, ◌≡◌, eqb, length, get_or}
+use Rattle.rules.specs.Tables.{befores_of, afters_of}
 use Rattle.rules.specs.Words.{when}
+use Rattle.rules.specs.declared.Link.{Link}
 use Rattle.links.specs.Chains.{Chained}
 use Rattle.links.specs.Links.{Ties, counted, links_to, links_between}
+use Rattle.links.specs.declared.chains.Chains.{Chains}
+use Rattle.links.specs.declared.queue.Placing.{Placing}
 
 -- The first t entries of the queue are the pieces, of n, that wait for nothing, each once.
 pub record Queue (n t : ℕ) (order waits : List ℕ) : Type 0 where
@@ -33,51 +37,54 @@ unfolding counted among
 links_from_first m befores afters order h j =
     counted (λ k. eqb (get_or afters k 0) j && among order h (get_or befores k 0)) m
 
--- Chains with the pieces and links that they were made of.
-pub record Net (afters last prior : List ℕ) : Type 0 where
+-- Links between so many pieces, and their chains.
+pub record Net (ls : List Link) (chains : Chains) : Type 0 where
   pub pieces : ℕ
-  pub links : ℕ
-  pub befores : List ℕ
-  pub ties : Ties pieces links befores afters
-  pub chained : Chained befores links last prior
+  pub ties : Ties pieces (length ls) (befores_of ls) (afters_of ls)
+  pub chained : Chained (befores_of ls) (length ls) chains.last chains.prior
 
 -- To count the links into each piece: a clear table.
 pub record ToCount (m : ℕ) (afters waits : List ℕ) : Type 0 where
   pub few : m ≤ 1024
   pub small : (k : ℕ) → k < m → get_or afters k 0 < 256
-  pub sized : length waits ≡ 256
   pub cleared : (j : ℕ) → j < 256 → get_or waits j 0 ≡ 0
 
 pub record CountedTo (m : ℕ) (afters waits : List ℕ) : Type 0 where
   pub sized : length waits ≡ 256
   pub counts : (j : ℕ) → j < 256 → get_or waits j 0 ≡ links_to m afters j
 
+-- The queue of n pieces, and what it has become.
+abbrev pub Placed : ℕ → Placing → Type 0
+Placed n q = Queue n q.placed q.order q.waits
+
+abbrev pub PassedTo : ℕ → Placing → (ℕ → ℕ) → Placing → Type 0
+PassedTo n q less r = Passed n q.placed less q.order q.waits r.placed r.order r.waits
+
 -- To pass one link to piece j, whatever the number of pieces.
-pub record ToPassOne (j t : ℕ) (order waits : List ℕ) : Type 0 where
+pub record ToPassOne (j : ℕ) (q : Placing) : Type 0 where
   pub pieces : ℕ
   pub few : pieces ≤ 256
   pub one : j < pieces
-  pub queue : Queue pieces t order waits
+  pub queue : Placed pieces q
 
-abbrev pub PassedOne : ℕ → ℕ → List ℕ → List ℕ → ℕ → List ℕ → List ℕ → Type 0
-PassedOne j t order waits r order₂ waits₂ =
-    (n : ℕ) → n ≤ 256 → j < n → Queue n t order waits → Passed n t (λ x. when (eqb x j) 1 0) order waits r order₂ waits₂
+abbrev pub PassedOne : ℕ → Placing → Placing → Type 0
+PassedOne j q r = (n : ℕ) → n ≤ 256 → j < n → Placed n q → PassedTo n q (λ x. when (eqb x j) 1 0) r
 
--- To pass every link from piece i, whatever the chains were made of.
-pub record ToPass (i t : ℕ) (afters last prior order waits : List ℕ) : Type 0 where
-  pub net : Net afters last prior
+-- To pass every link from piece i, whatever the number of pieces.
+pub record ToPass (i : ℕ) (ls : List Link) (chains : Chains) (q : Placing) : Type 0 where
+  pub net : Net ls chains
   pub one : i < net.pieces
-  pub queue : Queue net.pieces t order waits
+  pub queue : Placed net.pieces q
 
-abbrev pub PassedOn : ℕ → ℕ → List ℕ → List ℕ → List ℕ → List ℕ → List ℕ → ℕ → List ℕ → List ℕ → Type 0
-PassedOn i t afters last prior order waits r order₂ waits₂ =
-    (N : Net afters last prior) → i < N.pieces → Queue N.pieces t order waits
-    → Passed N.pieces t (links_between N.links N.befores afters i) order waits r order₂ waits₂
+abbrev pub PassedOn : ℕ → List Link → Chains → Placing → Placing → Type 0
+PassedOn i ls chains q r =
+    (N : Net ls chains) → i < N.pieces → Placed N.pieces q
+    → PassedTo N.pieces q (links_between (length ls) (befores_of ls) (afters_of ls) i) r
 
 -- To pass every link from every piece in the queue, those placed on the way as well.
-pub record ToPassAll (t : ℕ) (afters last prior order waits : List ℕ) : Type 0 where
-  pub net : Net afters last prior
-  pub queue : Queue net.pieces t order waits
+pub record ToPassAll (ls : List Link) (chains : Chains) (q : Placing) : Type 0 where
+  pub net : Net ls chains
+  pub queue : Placed net.pieces q
 
 -- All links from the first h of the queue are passed; and what was placed on the way was placed for links from pieces
 -- that stand earlier in the queue.
@@ -88,7 +95,7 @@ pub record FirstPassed (n m : ℕ) (befores afters : List ℕ) (t : ℕ) (order 
   pub earned : (q : ℕ) → t ≤ q → q < r
       → get_or waits (get_or order₂ q 0) 0 ≤ links_from_first m befores afters order₂ q (get_or order₂ q 0)
 
-abbrev pub PassedAll : ℕ → List ℕ → List ℕ → List ℕ → List ℕ → List ℕ → ℕ → ℕ → List ℕ → List ℕ → Type 0
-PassedAll t afters last prior order waits h r order₂ waits₂ =
-    (N : Net afters last prior) → Queue N.pieces t order waits
-    → FirstPassed N.pieces N.links N.befores afters t order waits h r order₂ waits₂
+abbrev pub PassedAll : List Link → Chains → Placing → ℕ → Placing → Type 0
+PassedAll ls chains q h r =
+    (N : Net ls chains) → Placed N.pieces q
+    → FirstPassed N.pieces (length ls) (befores_of ls) (afters_of ls) q.placed q.order q.waits h r.placed r.order r.waits

@@ -1,4 +1,4 @@
-// Links as plain tables of numbers, of no job file: the links from one piece chained together, and the ring check with the
+// The links of a job walked: the links from one piece chained together, and the ring check with the
 // order that it finds.
 #![tactic(auto)]
 

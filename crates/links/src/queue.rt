@@ -1,108 +1,98 @@
-// Pieces placed in a queue as soon as nothing is left that they wait for: `order[..placed]` holds them, `waits[j]` is
-// what piece j still waits for. Each link from a placed piece is passed once, along the piece's chain.
-ghost use Rattle.std.specs.Prelude.{◌≤◌, length, ◌≡◌};
+// Pieces placed in a queue as soon as nothing is left that they wait for. Each link from a placed piece is passed once,
+// along the piece's chain.
+ghost use Rattle.std.specs.Prelude.{◌≡◌, ◌≤◌, length, replicate};
+ghost use Rattle.rules.specs.Tables.{afters_of};
 ghost use Rattle.links.specs.Queue.{Queue, ToCount, CountedTo};
 ghost use Rattle.links.specs.Queue.{ToPassOne, PassedOne, ToPass, PassedOn, ToPassAll, PassedAll};
 
-// How many links lead to each piece.
-pub fn count_into(afters: &[u16; 1024], count: usize, waits: &mut [u16; 256])
-    requires { ToCount count afters.now waits.old }
-    ensures { CountedTo count afters.now waits.new }
+use crate::chains::Chains;
+use rules::Link;
+
+/// How many links lead to each piece: so many links it waits for. The table is clear at first.
+pub fn count_into(links: &[Link], waits: &mut [u16; 256])
+    requires { ToCount (length links.now) (afters_of links.now) waits.old }
+    ensures { CountedTo (length links.now) (afters_of links.now) waits.new }
 {
-    let mut k = 0;
-    while k < count {
-        let j = afters[k] as usize;
-        waits[j] += 1;
-        k += 1;
+    for link in links {
+        waits[usize::from(link.after)] += 1;
     }
 }
 
-// The pieces that wait for nothing, in the order of their numbers.
+/// The pieces that wait for nothing, in the order of their numbers; how many.
 #[tactic(auto, using(crate::proofs::QueueLaws::queue_takes, crate::proofs::QueueLaws::queue_passes))]
 pub fn place_free(pieces: usize, waits: &[u16; 256], order: &mut [u16; 256]) -> usize
-    requires { (pieces ≤ 256) × (length waits.now ≡ 256) × (length order.old ≡ 256) }
+    requires { pieces ≤ 256 }
     ensures { Queue pieces result order.new waits.now }
 {
     let mut placed = 0;
-    let mut i = 0;
-    while i < pieces {
+    for i in 0..pieces {
         if waits[i] == 0 {
             order[placed] = i as u16;
             placed += 1;
         }
-        i += 1;
     }
     placed
 }
 
-// One link to piece j is passed: it waits for one less, and is placed with the last.
-fn pass_one(j: usize, placed: usize, order: &mut [u16; 256], waits: &mut [u16; 256]) -> usize
-    requires { ToPassOne j placed order.old waits.old }
-    ensures { PassedOne j placed order.old waits.old
-        result order.new waits.new }
-{
-    let w = waits[j];
-    if w == 0 {
-        return placed;
-    }
-    waits[j] = w - 1;
-    if w == 1 {
-        order[placed] = j as u16;
-        return placed + 1;
-    }
-    placed
+// The queue: `order[..placed]` holds the placed pieces, `waits[j]` is what piece j still waits for.
+#[derive(Drop)]
+pub(crate) struct Placing {
+    pub(crate) order: [u16; 256],
+    pub(crate) placed: usize,
+    pub(crate) waits: [u16; 256],
 }
 
-// Every link from piece i is passed.
-pub fn pass_on(
-    i: usize,
-    placed: usize,
-    afters: &[u16; 1024],
-    last: &[u16; 256],
-    prior: &[u16; 1024],
-    order: &mut [u16; 256],
-    waits: &mut [u16; 256],
-) -> usize
-    requires { ToPass i placed afters.now last.now prior.now order.old waits.old }
-    ensures { PassedOn i placed afters.now last.now prior.now
-        order.old waits.old result order.new waits.new }
-{
-    let mut placed = placed;
-    let mut at = last[i] as usize;
-    while at != 0 {
-        let k = at - 1;
-        placed = pass_one(afters[k] as usize, placed, order, waits);
-        at = prior[k] as usize;
+impl Placing {
+    // No piece is placed, and each waits for so many links.
+    pub(crate) fn new(each: u16) -> Self
+        ensures { result ≡ record { order = replicate 256 0; placed = 0; waits = replicate 256 each } }
+    {
+        Placing {
+            order: [0; 256],
+            placed: 0,
+            waits: [each; 256],
+        }
     }
-    placed
-}
 
-// Every link from every piece in the queue is passed, from those placed on the way as well.
-pub fn pass_all(
-    placed: usize,
-    afters: &[u16; 1024],
-    last: &[u16; 256],
-    prior: &[u16; 1024],
-    order: &mut [u16; 256],
-    waits: &mut [u16; 256],
-) -> usize
-    requires { ToPassAll placed afters.now last.now prior.now order.old waits.old }
-    ensures { PassedAll placed afters.now last.now prior.now
-        order.old waits.old result result order.new waits.new }
-{
-    let mut placed = placed;
-    let mut head = 0;
-    while head < placed {
-        placed = pass_on(
-            order[head] as usize,
-            placed,
-            afters,
-            last,
-            prior,
-            order,
-            waits,
-        );
-        head += 1;
+    // One link to piece j is passed: it waits for one less, and is placed with the last.
+    fn pass_one(&mut self, j: usize)
+        requires { ToPassOne j self.old }
+        ensures { PassedOne j self.old self.new }
+    {
+        let w = self.waits[j];
+        if w == 0 {
+            return;
+        }
+        self.waits[j] = w - 1;
+        if w == 1 {
+            self.order[self.placed] = j as u16;
+            self.placed += 1;
+        }
     }
-    placed
+
+    // Every link from piece i is passed.
+    pub(crate) fn pass_on(&mut self, i: usize, links: &[Link], chains: &Chains)
+        requires { ToPass i links.now chains.now self.old }
+        ensures { PassedOn i links.now chains.now self.old self.new }
+    {
+        let mut at = chains.first(i);
+        while let Some(k) = at {
+            self.pass_one(usize::from(links[k].after));
+            at = chains.next(k);
+        }
+    }
+
+    // Every link from every piece in the queue is passed, from those placed on the way as well.
+    pub(crate) fn pass_all(&mut self, links: &[Link], chains: &Chains)
+        requires { ToPassAll links.now chains.now self.old }
+        ensures { PassedAll links.now chains.now self.old self.new.placed self.new }
+    {
+        // The queue grows while it is walked.
+        for head in 0..self.order.len() {
+            if head == self.placed {
+                return;
+            }
+            self.pass_on(usize::from(self.order[head]), links, chains);
+        }
+    }
 }

@@ -1,92 +1,81 @@
-// The ring check on plain tables of links: an order of the pieces in which every piece stands after the pieces before
-// it, or the lowest piece that leads by links back to itself. The search for that piece runs only where there is a ring.
-ghost use Rattle.links.specs.Rings.{ToCheck, RingChecked, Placed, ToLead, LeadsBack, ToFind, Lowest};
+// The ring check on the links: an order of the pieces in which every piece stands after the pieces before it, or the lowest
+// piece that leads by links back to itself. The search for that piece runs only where there is a ring.
+ghost use Rattle.std.specs.Prelude.{◌≡◌, length, replicate};
+ghost use Rattle.rules.specs.Tables.{befores_of, afters_of};
+ghost use Rattle.rules.specs.Rings.{lowest_on_ring};
+ghost use Rattle.links.specs.Chains.{Chained};
+ghost use Rattle.links.specs.Links.{Ties, follows};
+ghost use Rattle.links.specs.Rings.{ring_at, ToCheck, RingChecked, ToLead, LeadsBack};
 
-use crate::chains::chain_links;
-use crate::queue::{count_into, pass_all, pass_on, place_free};
+use crate::chains::Chains;
+use crate::queue::{Placing, count_into, place_free};
+use rules::Link;
 
-// No ring, or the lowest piece on one.
-#[derive(Clone, Copy)]
-pub enum Ring {
-    Free,
-    At(usize),
+/// How the links are walked: from each piece by its chain, and from piece to piece in an order in which every piece stands
+/// after the pieces before it.
+#[derive(Drop)]
+pub struct Walk {
+    pub chains: Chains,
+    pub order: [u16; 256],
+}
+
+impl Walk {
+    /// For a ring check: no links, no order yet.
+    pub fn new() -> Self
+        ensures last { result.chains.last ≡ replicate 256 0 }
+        ensures prior { result.chains.prior ≡ replicate 1024 0 }
+        ensures order { result.order ≡ replicate 256 0 }
+    {
+        Walk {
+            chains: Chains::new(),
+            order: [0; 256],
+        }
+    }
 }
 
 // Whether piece i leads to itself: each piece waits for one link, the links from i are passed, then all from what is
 // placed.
-fn leads_back(
-    i: usize,
-    afters: &[u16; 1024],
-    last: &[u16; 256],
-    prior: &[u16; 1024],
-    order: &mut [u16; 256],
-) -> bool
-    requires { ToLead i afters.now last.now prior.now order.old }
-    ensures { LeadsBack i afters.now last.now prior.now
-        order.new result }
+fn leads_back(i: usize, links: &[Link], chains: &Chains) -> bool
+    requires { ToLead i links.now chains.now }
+    ensures { LeadsBack i links.now chains.now result }
 {
-    let mut waits = [1u16; 256];
-    let placed = pass_on(i, 0, afters, last, prior, order, &mut waits);
-    pass_all(placed, afters, last, prior, order, &mut waits);
-    waits[i] == 0
+    let mut queue = Placing::new(1);
+    queue.pass_on(i, links, chains);
+    queue.pass_all(links, chains);
+    queue.waits[i] == 0
 }
 
-// The lowest piece that leads to itself, where there is one.
-fn lowest_on_ring(
-    afters: &[u16; 1024],
-    last: &[u16; 256],
-    prior: &[u16; 1024],
-    order: &mut [u16; 256],
-) -> usize
-    requires { ToFind afters.now last.now prior.now order.old }
-    ensures { Lowest afters.now last.now prior.now result }
+// No piece leads to itself, or the lowest that does.
+fn lowest_on_ring(pieces: usize, links: &[Link], chains: &Chains) -> Result<(), usize>
+    requires ties { Ties pieces (length links.now) (befores_of links.now) (afters_of links.now) }
+    requires chained { Chained (befores_of links.now) (length links.now) chains.now.last chains.now.prior }
+    ensures { ring_at result
+        ≡ lowest_on_ring (follows (length links.now) (befores_of links.now) (afters_of links.now)) pieces }
 {
-    let mut i = 0;
-    while !leads_back(i, afters, last, prior, order) {
-        i += 1;
+    for i in 0..pieces {
+        if leads_back(i, links, chains) {
+            return Err(i);
+        }
     }
-    i
+    Ok(())
 }
 
-// Pieces placed one after the other once all links into them are passed; how many. The links are chained on the way.
-fn place_pieces(
-    pieces: usize,
-    links: usize,
-    befores: &[u16; 1024],
-    afters: &[u16; 1024],
-    last: &mut [u16; 256],
-    prior: &mut [u16; 1024],
-    order: &mut [u16; 256],
-) -> usize
-    requires { ToCheck pieces links befores.now afters.now last.old prior.old order.old }
-    ensures { Placed pieces links befores.now afters.now
-        last.new prior.new order.new result }
+/// The ring check: no ring, and the walk holds the pieces in order; or the lowest piece on a ring, and the walk's order
+/// holds nothing of use.
+pub fn ring_check(pieces: usize, links: &[Link], walk: &mut Walk) -> Result<(), usize>
+    requires { ToCheck pieces (length links.now) (befores_of links.now) (afters_of links.now)
+        walk.old.chains.last }
+    ensures { RingChecked pieces (length links.now) (befores_of links.now) (afters_of links.now)
+        walk.new.chains.last walk.new.chains.prior walk.new.order result }
 {
-    chain_links(befores, links, last, prior);
-    let mut waits = [0u16; 256];
-    count_into(afters, links, &mut waits);
-    let free = place_free(pieces, &waits, order);
-    pass_all(free, afters, last, prior, order, &mut waits)
-}
-
-// No ring, and `order` holds the pieces in order; or the lowest piece on a ring, and `order` holds nothing of use. The
-// chains that are made on the way are left for whoever walks the links.
-pub fn ring_check(
-    pieces: usize,
-    links: usize,
-    befores: &[u16; 1024],
-    afters: &[u16; 1024],
-    last: &mut [u16; 256],
-    prior: &mut [u16; 1024],
-    order: &mut [u16; 256],
-) -> Ring
-    requires { ToCheck pieces links befores.now afters.now last.old prior.old order.old }
-    ensures { RingChecked pieces links befores.now afters.now last.new
-        prior.new order.new result }
-{
-    let placed = place_pieces(pieces, links, befores, afters, last, prior, order);
-    if placed == pieces {
-        return Ring::Free;
+    walk.chains.chain(links);
+    let mut queue = Placing::new(0);
+    count_into(links, &mut queue.waits);
+    queue.placed = place_free(pieces, &queue.waits, &mut queue.order);
+    queue.pass_all(links, &walk.chains);
+    if queue.placed == pieces {
+        walk.order = queue.order;
+        return Ok(());
     }
-    Ring::At(lowest_on_ring(afters, last, prior, order))
+    lowest_on_ring(pieces, links, &walk.chains)
 }
