@@ -1,3 +1,2 @@
 -- Laws of latest moments in tables.
-pub mod LeastLaws
 pub mod TimedLaws

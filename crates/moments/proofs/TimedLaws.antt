@@ -1,184 +1,206 @@
--- One piece more in its turn: the least of its due and of what the links from it leave is its latest moment, since the
--- pieces after it had theirs.
+-- One piece in its turn: the least of its due and of what the links from it leave is its latest moment, since the pieces
+-- after it had theirs.
 use Prim.Native.Nat.{ℕ, suc, ◌+◌, ◌≤◌, ◌<◌}
 use mathlib.Core.List.{List, Memᴰ as Mem}
-use mathlib.Core.Path.{◌≡◌, sym, ap, ap₂, subst, ◌∙◌}
+use mathlib.Core.Logic.{⊎_elim}
+use mathlib.Core.Path.{◌≡◌, sym, ap, ◌∙◌}
 use native.Mathlib.Omega.{arith}
 use borrow.Author.Tests.{eqb-true, eqb-false}
 use lib.Dec.{eqb}
-use lib.IntN.{ℤ, pos, ◌-ℤ◌}
+use lib.IntN.{ℤ, pos, negsuc, ◌-ℤ◌, nat_abs}
 use lib.ListN.{length, get_or, set}
 use lib.Seq.{get_or-set_same, get_or-set_other}
-use Rattle.rules.specs.Words.{when}
-use Rattle.rules.specs.Job.{Job, piece_count, piece, desk}
+use mir.Syntax.{w32}
+use mir.Val.{SFits}
+use Rattle.std.specs.Int.{int_min}
+use lib.Signed.{lt_z}
+use Rattle.rules.specs.Words.{when, lesser_z}
+use Rattle.rules.specs.Job.{Job, piece}
 use Rattle.rules.specs.Moments.{takes_off, latest}
-use Rattle.rules.specs.Tables.{piece_in, link_in, no_link}
+use Rattle.rules.specs.Tables.{job_of, befores_of, afters_of, no_link}
 use Rattle.rules.specs.declared.Link.{Link}
-use Rattle.laws.proofs.Delay.{delay_is, takes_off_is, takes_off_most}
+use Rattle.rules.specs.declared.Piece.{Piece}
+use Rattle.laws.proofs.Columns.{get_or-befores, get_or-afters}
+use Rattle.laws.proofs.Delay.{takes_off_most}
 use Rattle.laws.proofs.Latest.{asked_most, latest_equation, latest_due, latest_after, latest_near}
-use Rattle.laws.proofs.Signed.{◌≼◌, same}
-use Rattle.laws.proofs.Sound.{fits, mem_place, place_mem, from_link}
+use Rattle.laws.proofs.Signed.{up, dn, ◌≼◌, same, minus, lesser_left, lesser_right, lesser_most}
+use Rattle.laws.proofs.Sound.{mem_place, place_mem, from_link, link_fit}
 use Rattle.laws.proofs.Words.{by_test}
-use Rattle.links.specs.Chains.{places_with}
-use Rattle.links.specs.Links.{Ties}
-use Rattle.links.specs.Queue.{Net}
-use Rattle.links.proofs.ChainLaws.{places_key, key_places}
-use Rattle.links.proofs.LinkLaws.{job_pieces, job_links, job_piece, job_link, job_ties}
-use Rattle.moments.specs.Moments.{takes_off_in, left_by, least_left, ToTimeOne, TimedOne, Timeable, timed_job}
-use Rattle.moments.proofs.LeastLaws.{left_start, left_each, left_most}
+use Rattle.links.specs.declared.chains.Chains.{Chains}
+use Rattle.links.specs.declared.rings.Walk.{Walk}
+use Rattle.links.proofs.ChainLaws.{OnChain, chain_start, on_link, on_falls, on_next, on_last, on_or_behind}
+use Rattle.moments.specs.Moments.{left_by, ToLeave, ToTimeOne, ToTime}
 
-module _ (n : ℕ) (desks durations dues afters handovers lasts priors order : List ℕ)
-    (T : Timeable n desks durations dues afters handovers lasts priors order) where
+-- A signed number that is not far from zero, less what a link takes off it.
+near_fits : (z : ℤ) → up z ≤ 600000 + dn z → dn z ≤ 600000 + up z → SFits w32 z
+unfolding up dn
+near_fits (pos n) h k = record { sfits = omega arith }
+near_fits (negsuc n) h k = record { sfits = omega arith }
+
+not_far : (z : ℤ) → nat_abs z ≤ 500000 → (up z ≤ 500000) × (dn z ≤ 500000)
+unfolding up dn
+not_far (pos n) h = (omega arith, omega arith)
+not_far (negsuc n) h = (omega arith, omega arith)
+
+module _ {J : Job} {moments : List ℤ} {k : ℕ} (L : ToLeave J moments k) where
+  pub moment_fits : SFits w32 (get_or moments (get_or J.links k no_link).after (pos 0))
+  moment_fits =
+      let z = get_or moments (get_or J.links k no_link).after (pos 0) in
+      let n = not_far z L.near in
+      near_fits z (omega (arith, n.0)) (omega (arith, n.1))
+
+  pub left_fits : SFits w32 (left_by J moments (get_or J.links k no_link))
+  unfolding left_by up dn
+  left_fits =
+      let l = get_or J.links k no_link in
+      let z = get_or moments l.after (pos 0) in
+      let gap = minus z (pos (takes_off J l)) in
+      let n = not_far z L.near in
+      let small = takes_off_most J L.sound l (place_mem no_link J.links k L.here) in
+      near_fits (z -ℤ pos (takes_off J l)) (omega (arith, gap, n.0, n.1, small)) (omega (arith, gap, n.0, n.1, small))
+
+-- The walk along the chain of piece i: the least so far is no less than its latest moment, and no more than its due and
+-- than what the links behind leave.
+module _ (i : ℕ) (ps : List Piece) (ls : List Link) where
   abbrev J : Job
-  J = timed_job T
+  J = job_of ps ls
 
-  abbrev befores : List ℕ
-  befores = T.befores
+  -- What link j leaves the piece before it, in the words of the rules.
+  abbrev leaves : Link → ℤ
+  leaves l = latest J l.after -ℤ pos (takes_off J l)
 
-  as_many : piece_count J ≡ n
-  as_many = job_pieces n T.links desks durations T.releases dues T.befores afters handovers
+  pub record Timing (least : ℤ) (at : ℕ) : Type 0 where
+    pub bound : ℕ
+    pub on_chain : OnChain (befores_of ls) i (length ls) at bound
+    pub low : latest J i ≼ least
+    pub due : least ≼ pos (piece J i).due
+    pub behind : (j : ℕ) → j < length ls → get_or (befores_of ls) j 0 ≡ i → bound ≤ j
+        → least ≼ leaves (get_or ls j no_link)
 
-  inside : (i : ℕ) → i < n → i < piece_count J
-  inside i l = omega (arith, as_many)
-
-  ties : Ties n T.links T.befores afters
-  ties = job_ties n T.links desks durations T.releases dues T.befores afters handovers T.sound
-
-  pub few_pieces : n ≤ 256
-  few_pieces = ties.few_pieces
-
-  abbrev net : Net afters lasts priors
-  net = record {
-    pieces = n;
-    links = T.links;
-    befores = T.befores;
-    ties = ties;
-    chained = T.walkable.chained;
-  }
-
-  piece-at : (i : ℕ) → i < n → piece J i ≡ piece_in desks durations T.releases dues i
-  piece-at = job_piece n T.links desks durations T.releases dues T.befores afters handovers
-
-  due_is : (i : ℕ) → i < n → (piece J i).due ≡ get_or dues i 0
-  unfolding piece_in
-  due_is i l = ap (λ p. p.due) (piece-at i l)
-
-  -- Link k of the tables is one of the job's.
-  abbrev link_at : ℕ → Link
-  link_at = link_in T.befores afters handovers
-
-  as_many_links : length J.links ≡ T.links
-  as_many_links = job_links n T.links desks durations T.releases dues T.befores afters handovers
-
-  link_at_lem : (k : ℕ) → k < T.links → get_or J.links k no_link ≡ link_at k
-  link_at_lem = job_link n T.links desks durations T.releases dues T.befores afters handovers
-
-  link_there : (k : ℕ) → k < T.links → Mem (link_at k) J.links
-  link_there k l = rw (link_at_lem k l) at (place_mem no_link J.links k (omega (arith, as_many_links)))
-
-  off_is : (k i : ℕ) → k < T.links → get_or befores k 0 ≡ i
-      → takes_off J (link_at k) ≡ takes_off_in desks durations afters handovers i k
-  unfolding takes_off_in link_in piece_in
-  off_is k i l e =
-      let after = piece-at (get_or afters k 0) (ties.after_one k l) in
-      let before = ap (desk J) e ∙ ap (λ p. p.desk) (piece-at i (omega (arith, e, ties.before_one k l))) in
-      takes_off_is J (link_at k)
-      ∙ ap₂ (λ (x y : ℕ). x + y) (ap (λ p. p.duration) after)
-      (delay_is J (link_at k)
-      ∙ ap₂ (λ (x y : ℕ). when (eqb x y) 0 (get_or handovers k 0)) before (ap (λ p. p.desk) after))
-
-  -- The pieces from place p of the order on have their latest moments.
-  abbrev pub Done : ℕ → List ℤ → Type 0
-  Done p moments = (q : ℕ) → p ≤ q → q < n → get_or moments (get_or order q 0) (pos 0) ≡ latest J (get_or order q 0)
-
-  pub done_all : (moments : List ℤ) → Done 0 moments → (i : ℕ) → i < n → get_or moments i (pos 0) ≡ latest J i
-  done_all moments d i l =
-      let w = T.walkable.ordered.everyone i l in rw w.2 at (d w.0 (omega arith) w.1)
-
-  -- The piece at place p has its turn.
-  module _ (p : ℕ) (on : p < n) (moments : List ℤ) (done : Done (suc p) moments) where
-    abbrev i : ℕ
-    i = get_or order p 0
-
-    pub turn_inside : i < n
-    turn_inside = T.walkable.ordered.inside p on
-
-    -- The piece after a link from it had its turn.
-    follower : (k : ℕ) → k < T.links → get_or befores k 0 ≡ i
-        → get_or moments (get_or afters k 0) (pos 0) ≡ latest J (get_or afters k 0)
-    follower k l e =
-        let w = T.walkable.ordered.everyone (get_or afters k 0) (ties.after_one k l) in
-        let later : p < w.0 = T.walkable.ordered.rises k l p w.0 on w.1 (sym e) w.2 in
-        rw w.2 at (done w.0 (omega arith) w.1)
-
-    pub turn_asks : ToTimeOne i desks durations dues afters handovers lasts priors moments
-    turn_asks = record {
-      net = net;
-      one = turn_inside;
-      due_most = omega (arith, due_is i turn_inside, (fits J T.sound i (inside i turn_inside)).due_most);
-      leaves = λ k l e. record {
-        one = omega (arith, turn_inside, ties.few_pieces);
-        here = omega (arith, ties.few_links);
-        after_one = omega (arith, ties.after_one k l, ties.few_pieces);
-        small = rw (← (off_is k i l e)) (takes_off_most J T.sound (link_at k) (link_there k l));
-        near = rw (follower k l e)
-            (omega (arith, (latest_near J T.sound T.free _ (inside _ (ties.after_one k l))).abs_most));
-      };
+  module _ {chains : Chains} {moments : List ℤ} (A : ToTimeOne i ps ls chains moments) where
+    pub timing_start : (at : ℕ) → at ≡ get_or chains.last i 0 → Timing (pos (piece J i).due) at
+    timing_start at e = record {
+      bound = length ls;
+      on_chain = chain_start A.chained at e (omega (arith, A.one, A.sound.few_pieces));
+      low = latest_due J A.sound A.free i A.one;
+      due = omega arith;
+      behind = λ j l b h. absurd (omega arith);
     }
 
-    -- What a link from it leaves, in the words of the rules.
-    left_is : (k : ℕ) → k < T.links → get_or befores k 0 ≡ i
-        → left_by desks durations afters handovers moments i k
-        ≡ (latest J (get_or afters k 0) -ℤ pos (takes_off J (link_at k)))
-    unfolding left_by
-    left_is k l e = rw (follower k l e, off_is k i l e)
+    -- At link k.
+    module _ {k : ℕ} {least : ℤ} (T : Timing least (suc k)) where
+      here : (k < length ls) × (get_or (befores_of ls) k 0 ≡ i)
+      here = on_link A.chained T.on_chain
 
-    module _ (r : ℤ) (timed : TimedOne i desks durations dues afters handovers lasts priors moments r) where
-      abbrev f : ℕ → ℤ
-      f = left_by desks durations afters handovers moments i
+      pub timing_place : k < length ls
+      timing_place = here.0
 
-      abbrev own : List ℕ
-      own = places_with befores i T.links
+      pub timing_falls : get_or chains.prior k 0 < suc k
+      timing_falls = on_falls A.chained T.on_chain
 
-      is_least : r ≡ least_left f (pos (get_or dues i 0)) own
-      is_least = timed net turn_inside
+      from_here : (get_or ls k no_link).before ≡ i
+      from_here = sym (get_or-befores ls k) ∙ here.1
 
-      at_least : latest J i ≼ r
-      unfolding link_in
-      at_least = rw is_least (left_most f (pos (get_or dues i 0)) (latest J i) own
-          (rw (← (due_is i turn_inside)) (latest_due J T.sound T.free i (inside i turn_inside)))
-          (λ k m. let w = places_key befores i T.links k m in
-          rw (left_is k w.0 w.1)
-          (subst (λ x. latest J x ≼ (latest J (get_or afters k 0) -ℤ pos (takes_off J (link_at k)))) w.1
-          (latest_after J T.sound T.free (link_at k) (link_there k w.0)))))
+      known : get_or moments (get_or ls k no_link).after (pos 0) ≡ latest J (get_or ls k no_link).after
+      known = A.followers (get_or ls k no_link) (place_mem no_link ls k here.0) from_here
 
-      at_most : r ≼ latest J i
-      unfolding link_in
-      at_most =
-          rw (latest_equation J T.sound T.free i (inside i turn_inside))
-          (asked_most J (latest J) i r
-          (rw (due_is i turn_inside, is_least) (left_start f (pos (get_or dues i 0)) own))
-          (λ l m. each l (from_link J i l m)))
-        where
-          each : (l : Link) → Mem l J.links × (l.before ≡ i) → r ≼ (latest J l.after -ℤ pos (takes_off J l))
-          each l m =
-              let w = mem_place no_link J.links l m.0 in
-              let h : w.0 < T.links = omega (arith, w.1, as_many_links) in
-              let e : link_at w.0 ≡ l = sym (link_at_lem w.0 h) ∙ w.2 in
-              let b : get_or befores w.0 0 ≡ i = ap (λ x. x.before) e ∙ m.1 in
-              rw (← e) (rw (← (left_is w.0 h b), is_least)
-              (left_each f (pos (get_or dues i 0)) own w.0 (key_places befores i T.links w.0 h b)))
+      pub timing_leave : ToLeave J moments k
+      timing_leave = record {
+        sound = A.sound;
+        here = here.0;
+        near =
+            let inside = (link_fit J A.sound (get_or ls k no_link) (place_mem no_link ls k here.0)).after_one in
+            rw known (omega (arith, (latest_near J A.sound A.free _ inside).abs_most));
+      }
 
-      pub turn_is : r ≡ latest J i
-      turn_is = same r (latest J i) (omega (arith, at_least, at_most))
+      left_is : left_by J moments (get_or ls k no_link) ≡ leaves (get_or ls k no_link)
+      unfolding left_by
+      left_is = rw known
 
-      pub turn_done : length moments ≡ 256 → Done p (set moments i r)
-      turn_done sized q h l = by_test (eqb q p)
-          (λ e. let room : i < length moments = omega (arith, sized, turn_inside, ties.few_pieces) in
-          rw (eqb-true q p e) (get_or-set_same moments i r (pos 0) room ∙ turn_is))
-          (λ e. get_or-set_other moments i (get_or order q 0) r (pos 0)
-          (λ z. eqb-false q p e (T.walkable.ordered.once q p l on z))
-          ∙ done q (later q h (eqb-false q p e)) l)
-        where
-          later : (q : ℕ) → p ≤ q → (q ≡ p → ⊥) → suc p ≤ q
-          later q h ne = omega arith
+      low_here : latest J i ≼ leaves (get_or ls k no_link)
+      low_here = rw from_here at (latest_after J A.sound A.free (get_or ls k no_link) (place_mem no_link ls k here.0))
+
+      pub timing_more : (at : ℕ) → at ≡ get_or chains.prior k 0 → (r : ℤ)
+          → r ≡ lesser_z least (left_by J moments (get_or ls k no_link)) → Timing r at
+      timing_more at e r is =
+          let l = get_or ls k no_link in
+          rw (is, left_is) (record {
+            bound = k;
+            on_chain = on_next A.chained T.on_chain at e;
+            low = lesser_most least (leaves l) (latest J i) T.low low_here;
+            due = omega (arith, T.due, lesser_left least (leaves l));
+            behind = λ j h b o.
+                ⊎_elim
+                (λ q. rw q (lesser_right least (leaves l)))
+                (λ q. omega (arith, T.behind j h b q, lesser_left least (leaves l)))
+                (on_or_behind A.chained T.on_chain j b o);
+          })
+
+    pub timing_end : {least : ℤ} → Timing least 0 → least ≡ latest J i
+    timing_end {least} T =
+        let high : least ≼ latest J i =
+        rw (latest_equation J A.sound A.free i A.one)
+        (asked_most J (latest J) i least T.due (λ l m. each l (from_link J i l m))) in
+        same least (latest J i) (omega (arith, T.low))
+      where
+        each : (l : Link) → Mem l ls × (l.before ≡ i) → least ≼ leaves l
+        each l m =
+            let w = mem_place no_link ls l m.0 in
+            let b : get_or (befores_of ls) w.0 0 ≡ i = get_or-befores ls w.0 ∙ ap (λ x. x.before) w.2 ∙ m.1 in
+            rw w.2 at (T.behind w.0 w.1 b (on_last A.chained T.on_chain w.0 b))
+
+-- Piece by piece: those from place p of the order on have their latest moments.
+abbrev pub Done : List Piece → List Link → Walk → ℕ → List ℤ → Type 0
+Done ps ls walk p moments = (q : ℕ) → p ≤ q → q < length ps
+    → get_or moments (get_or walk.order q 0) (pos 0) ≡ latest (job_of ps ls) (get_or walk.order q 0)
+
+module _ {ps : List Piece} {ls : List Link} {walk : Walk} (A : ToTime ps ls walk) where
+  abbrev K : Job
+  K = job_of ps ls
+
+  pub done_all : (moments : List ℤ) → Done ps ls walk 0 moments → (i : ℕ) → i < length ps → get_or moments i (pos 0) ≡ latest K i
+  done_all moments d i l =
+      let w = A.walkable.ordered.everyone i l in rw w.2 at (d w.0 (omega arith) w.1)
+
+  -- The piece at place p has its turn.
+  module _ (p : ℕ) (on : p < length ps) (moments : List ℤ) (done : Done ps ls walk (suc p) moments) where
+    abbrev i : ℕ
+    i = get_or walk.order p 0
+
+    pub turn_inside : i < length ps
+    turn_inside = A.walkable.ordered.inside p on
+
+    -- The piece after a link from it had its turn.
+    follower : (l : Link) → Mem l ls → l.before ≡ i → get_or moments l.after (pos 0) ≡ latest K l.after
+    follower l m e =
+        let g = mem_place no_link ls l m in
+        let w = A.walkable.ordered.everyone l.after (link_fit K A.sound l m).after_one in
+        let before : get_or (befores_of ls) g.0 0 ≡ i = get_or-befores ls g.0 ∙ ap (λ x. x.before) g.2 ∙ e in
+        let after : get_or (afters_of ls) g.0 0 ≡ l.after = get_or-afters ls g.0 ∙ ap (λ x. x.after) g.2 in
+        let later : p < w.0 = A.walkable.ordered.rises g.0 g.1 p w.0 on w.1 (sym before) (w.2 ∙ sym after) in
+        rw w.2 at (done w.0 (omega arith) w.1)
+
+    pub turn_asks : ToTimeOne i ps ls walk.chains moments
+    turn_asks = record {
+      sound = A.sound;
+      free = A.free;
+      chained = A.walkable.chained;
+      one = turn_inside;
+      followers = follower;
+    }
+
+    pub turn_done : (r : ℤ) → r ≡ latest K i → length moments ≡ 256 → Done ps ls walk p (set moments i r)
+    turn_done r is sized q h l = by_test (eqb q p)
+        (λ e. let room : i < length moments = omega (arith, sized, turn_inside, A.sound.few_pieces) in
+        rw (eqb-true q p e) (get_or-set_same moments i r (pos 0) room ∙ is))
+        (λ e. get_or-set_other moments i (get_or walk.order q 0) r (pos 0)
+        (λ z. eqb-false q p e (A.walkable.ordered.once q p l on z))
+        ∙ done q (later q h (eqb-false q p e)) l)
+      where
+        later : (q : ℕ) → p ≤ q → (q ≡ p → ⊥) → suc p ≤ q
+        later q h ne = omega arith
+
+-- The lesser of two as the code takes it is the one of the rules.
+pub int_min_is : (a b : ℤ) → int_min a b ≡ lesser_z a b
+unfolding lesser_z
+int_min_is a b = by_test (lt_z b a) (λ e. rw (e, when)) (λ e. rw (e, when))

@@ -1,28 +1,51 @@
 -- `takes_off` meets its contract: the follower's duration and the delay, whose sum fits.
-use Prim.Native.Nat.{◌+◌}
-use mathlib.Core.Path.{◌≡◌, ap, ap₂, ◌∙◌}
+use Prim.Native.Nat.{◌+◌, ◌≤◌}
+use mathlib.Core.Path.{◌≡◌, ap, ◌∙◌}
 use native.Mathlib.Omega.{arith}
-use lib.Dec.{eqb}
 use lib.IntN.{pos}
-use lib.ListN.{get_or}
+use lib.ListN.{length, get_or}
 use mir.Syntax.{w32}
 use mir.ValLaws.{to_z_pos}
-use Rattle.rules.specs.Words.{when}
-use Rattle.moments.specs.Moments.{takes_off_in}
-use Rattle.moments.proofs.takes_off.Goals.{After-delay}
+use Rattle.rules.specs.Moments.{takes_off, delay}
+use Rattle.rules.specs.Tables.{job_of, no_link}
+use Rattle.laws.proofs.Delay.{takes_off_most}
+use Rattle.laws.proofs.Sound.{LinkFits, link_fit, place_mem}
+use Rattle.moments.proofs.takes_off.Goals.{After-from, After-from-4}
 use Rattle.moments.proofs.takes_off.Goals as goal
 
--- What is added is what the definition says.
-total : (c : After-delay) → let a = c.args in c.wide.result + c.delay.result ≡ takes_off_in a.desks.now
-    a.durations.now a.afters.now a.handovers.now a.i a.k
-unfolding takes_off_in
-total c =
-    let a = c.args in
-    let lasting = c.wide.ensures.0 in
-    let handing = c.wide-2.ensures.0 in
-    let own = eqb (get_or a.desks.now a.i 0) (get_or a.desks.now (get_or a.afters.now a.k 0) 0) in
-    ap₂ (λ x y. x + y) lasting (c.delay.ensures.0 ∙ ap (when own 0) handing)
+module _ (c : After-from) where
+  fit : LinkFits (length c.args.pieces.now) (get_or c.args.links.now c.args.k no_link)
+  fit = link_fit (job_of c.args.pieces.now c.args.links.now) c.requires.sound _
+      (place_mem no_link c.args.links.now c.args.k c.requires.here)
+
+pub offset_bounds-pieces-from : goal.offset_bounds-pieces-from
+offset_bounds-pieces-from c = omega (arith, c.from.ensures, (fit c).before_one)
+
+pub bounds-pieces-from : goal.bounds-pieces-from
+bounds-pieces-from c = rw c.from.ensures (fit c).before_one
+
+pub offset_bounds-pieces-from-2 : goal.offset_bounds-pieces-from-2
+offset_bounds-pieces-from-2 c =
+    omega (arith, c.from-2.ensures, (fit (goal.at.offset_bounds-pieces-from-2 c).After-from).after_one)
+
+pub bounds-pieces-from-2 : goal.bounds-pieces-from-2
+bounds-pieces-from-2 c = rw c.from-2.ensures (fit (goal.at.bounds-pieces-from-2 c).After-from).after_one
+
+-- The sum is what the definition says, and at most 1,440.
+total : (c : After-from-4) → c.from-4.result + c.delay-delayed.result
+    ≡ takes_off (job_of c.args.pieces.now c.args.links.now) (get_or c.args.links.now c.args.k no_link)
+unfolding takes_off delay
+total c = rw (c.from-4.ensures, c.delay-delayed.ensures.0, c.from-3.ensures, c.from.ensures, c.from-2.ensures)
+
+small : (c : After-from-4) → c.from-4.result + c.delay-delayed.result ≤ 1440
+small c = rw (total c) (takes_off_most (job_of c.args.pieces.now c.args.links.now) c.requires.sound _
+    (place_mem no_link c.args.links.now c.args.k c.requires.here))
+
+pub overflow_add-result : goal.overflow_add-result
+overflow_add-result c = omega (arith, small c)
+
+pub overflow_cast-result : goal.overflow_cast-result
+overflow_cast-result c = omega (arith, small c)
 
 pub returns : goal.returns
-returns c =
-    to_z_pos w32 _ (omega (arith, total c, c.requires.3)) ∙ ap pos (total c)
+returns c = to_z_pos w32 _ (omega (arith, small c)) ∙ ap pos (total c)
