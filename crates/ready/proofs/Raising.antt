@@ -1,6 +1,6 @@
 -- Moments raised along the links, piece by piece in order: they stay below the raised ready moments, and a piece has its own
 -- once every piece before it had its turn.
-use Prim.Native.Nat.{ℕ, ◌+◌, ◌-◌, ◌≤◌, ◌<◌, max}
+use Prim.Native.Nat.{ℕ, suc, ◌+◌, ◌≤◌, ◌<◌, max}
 use mathlib.Core.List.{List, Memᴰ as Mem}
 use mathlib.Core.Logic.{⊎_elim}
 use mathlib.Core.Option.{none}
@@ -9,49 +9,34 @@ use native.Mathlib.Nat.{le_antisymm}
 use native.Mathlib.Omega.{arith}
 use borrow.Author.Tests.{eq-eqb, ne_eqb}
 use lib.Dec.{eqb}
-use lib.ListN.{get_or, set, length-set}
+use lib.ListN.{length, get_or, set, length-set}
 use lib.Seq.{get_or-set_same, get_or-set_other}
-use Rattle.rules.specs.Job.{Job, piece_count, piece, desk, duration, links_into}
+use Rattle.rules.specs.Job.{Job, piece_count, piece, desk, duration, links_into, no_piece}
 use Rattle.rules.specs.Hours.{open_end}
 use Rattle.rules.specs.Moments.{delay}
 use Rattle.rules.specs.Rings.{ring_piece}
-use Rattle.rules.specs.Tables.{link_in, Sound}
+use Rattle.rules.specs.Tables.{job_of, befores_of, afters_of, finishes_of, no_link, no_span, Sound}
 use Rattle.rules.specs.Urgency.{finish}
 use Rattle.rules.specs.Entries.{raised}
 use Rattle.rules.specs.declared.Link.{Link}
+use Rattle.rules.specs.declared.Piece.{Piece}
+use Rattle.rules.specs.declared.Span.{Span}
 use Rattle.laws.proofs.Words.{when_true, when_false}
-use Rattle.laws.proofs.Sound.{link_fit, into_link, link_into}
+use Rattle.laws.proofs.Columns.{get_or-befores, get_or-afters, get_or-releases, get_or-finishes}
+use Rattle.laws.proofs.Sound.{LinkFits, link_fit, into_link, link_into, mem_place, place_mem}
 use Rattle.laws.proofs.Raised.{elsewhere_link, link_elsewhere, own_link, link_own, ready_release, ready_after_lem}
 use Rattle.laws.proofs.Raised.{ready_least, raised-ready, raised_after, raised_least}
 use Rattle.theory.proofs.Cases.{by_eq}
 use Rattle.demands.proofs.Finishes.{finish_most}
 use Rattle.links.specs.Chains.{Chained}
 use Rattle.links.specs.Links.{InOrder}
-use Rattle.links.proofs.ChainLaws.{OnChain, chain_start, on_most, on_link, on_falls, on_next, on_or_behind, on_last}
+use Rattle.links.specs.declared.chains.Chains.{Chains}
+use Rattle.links.proofs.ChainLaws.{OnChain, chain_start, on_link, on_falls, on_next, on_or_behind, on_last}
 use Rattle.laws.proofs.Delay.{delay_between}
 use Rattle.laws.proofs.Hours.{end_is, end_grows}
 use Rattle.method.specs.Hours.{desk_end}
-use Rattle.ready.specs.Planned.{Planned, Tabled, Released, leaves, asks, Below, Risen, HoldsRaised}
-use Rattle.ready.proofs.FromTables.{job_count, job_desk, job_duration, link_mem, mem_link, links_few, raised_most}
-
-pub planned_tabled : (J : Job) (n m : ℕ) (desks durations releases befores afters handovers finishes lasts priors : List ℕ)
-    → Planned J n m desks durations releases befores afters handovers finishes → Chained befores m lasts priors
-    → Tabled J desks durations afters handovers lasts priors finishes
-planned_tabled J n m desks durations releases befores afters handovers finishes lasts priors p chained =
-    let c = job_count J n m desks durations releases befores afters handovers finishes p in
-    record {
-      links = m;
-      befores = befores;
-      chained = chained;
-      sound = p.sound;
-      free = p.free;
-      few = links_few J n m desks durations releases befores afters handovers finishes p;
-      desk_is = λ i h. job_desk J n m desks durations releases befores afters handovers finishes p i (omega arith);
-      duration_is = λ i h. job_duration J n m desks durations releases befores afters handovers finishes p i (omega arith);
-      finished = λ i h. p.finished i (omega arith);
-      link_mem = link_mem J n m desks durations releases befores afters handovers finishes p;
-      mem_link = mem_link J n m desks durations releases befores afters handovers finishes p;
-    }
+use Rattle.ready.specs.Planned.{Planned, Released, leaves, asks, Below, Risen, HoldsRaised}
+use Rattle.ready.proofs.FromTables.{raised_most}
 
 module _ (J : Job) (sound : Sound J) (free : ring_piece J ≡ none) where
   -- What a link asks: of two pieces on one desk, and of two desks.
@@ -123,209 +108,194 @@ module _ (J : Job) (sound : Sound J) (free : ring_piece J ≡ none) where
       (own l w.0 w.1 o.1) in
       rw same (omega (arith, all l w.0 w.1, asks_own t l (o.1 ∙ same), grows)))
 
--- A walk along the links of piece i.
-module _ (J : Job) (desks durations afters handovers lasts priors finishes : List ℕ)
-    (p : Tabled J desks durations afters handovers lasts priors finishes) where
+-- A walk along the links of piece i: those from `bound` on have been looked at.
+pub record Rising (i : ℕ) (ps : List Piece) (ls : List Link) (start table : List ℕ) (at : ℕ) : Type 0 where
+  pub bound : ℕ
+  pub walk : OnChain (befores_of ls) i (length ls) at bound
+  pub low : Below (job_of ps ls) table
+  pub grown : (j : ℕ) → j < length ps → get_or start j 0 ≤ get_or table j 0
+  pub granted : (k : ℕ) → k < length ls → get_or (befores_of ls) k 0 ≡ i → bound ≤ k
+      → asks (job_of ps ls) start (get_or ls k no_link) ≤ get_or table (get_or ls k no_link).after 0
+
+module _ {ps : List Piece} {ls : List Link} (spans : List Span) (P : Planned ps ls (finishes_of spans)) where
+  abbrev J : Job
+  J = job_of ps ls
+
   abbrev link : ℕ → Link
-  link = link_in p.befores afters handovers
+  link k = get_or ls k no_link
 
-  -- The pieces of link k.
-  pieces_of : (k : ℕ) → k < p.links → (get_or p.befores k 0 < piece_count J) × (get_or afters k 0 < piece_count J)
-  unfolding link_in
-  pieces_of k h = let f = link_fit J p.sound (link k) (p.link_mem k h) in (f.before_one, f.after_one)
+  fit : (k : ℕ) → k < length ls → LinkFits (length ps) (link k)
+  fit k h = link_fit J P.sound (link k) (place_mem no_link ls k h)
 
-  pub after_small : (k : ℕ) → k < p.links → get_or afters k 0 < 256
-  after_small k h = omega (arith, (pieces_of k h).1, p.sound.few_pieces)
+  finish_is : (i : ℕ) → i < length ps → (get_or spans i no_span).finish ≡ finish J i
+  finish_is i h = sym (get_or-finishes spans i) ∙ P.finished i h
 
   -- No sum on the way is out of range.
-  pub early : (table : List ℕ) (i : ℕ) → i < piece_count J → Below J table
-      → (get_or table i 0 ≤ 1000000) × (get_or finishes i 0 ≤ 1000000)
+  pub early : (table : List ℕ) (i : ℕ) → i < length ps → Below J table
+      → (get_or table i 0 ≤ 1000000) × ((get_or spans i no_span).finish ≤ 1000000)
   early table i h l = (
-    omega (arith, l.each i h, raised_most J p.sound p.free i h),
-    omega (arith, p.finished i h, finish_most J p.sound p.free i h),
+    omega (arith, l.each i h, raised_most J P.sound P.free i h),
+    omega (arith, finish_is i h, finish_most J P.sound P.free i h),
   )
 
-  module _ (i : ℕ) (one : i < piece_count J) where
-    -- The links of i from `bound` on have been looked at.
-    pub record Rising (start table : List ℕ) (at bound : ℕ) : Type 0 where
-      pub walk : OnChain p.befores i p.links at bound
-      pub low : Below J table
-      pub grown : (j : ℕ) → j < piece_count J → get_or start j 0 ≤ get_or table j 0
-      pub granted : (k : ℕ) → k < p.links → get_or p.befores k 0 ≡ i → bound ≤ k
-          → asks J start (link k) ≤ get_or table (link k).after 0
-
-    pub rising_none : (start : List ℕ) → Below J start → Rising start start (get_or lasts i 0) p.links
-    rising_none start h = record {
-      walk = chain_start p.befores p.links lasts priors p.chained i (omega (arith, p.sound.few_pieces));
+  module _ {chains : Chains} (C : Chained (befores_of ls) (length ls) chains.last chains.prior)
+      {i : ℕ} (one : i < length ps) where
+    pub rising_none : (start : List ℕ) (at : ℕ) → at ≡ get_or chains.last i 0 → Below J start → Rising i ps ls start start at
+    rising_none start at e h = record {
+      bound = length ls;
+      walk = chain_start C at e (omega (arith, one, P.sound.few_pieces));
       low = h;
       grown = λ j l. omega arith;
       granted = λ k h e l. absurd (omega arith);
     }
 
-    pub rising_most : (start table : List ℕ) (at bound : ℕ) → Rising start table at bound → at ≤ 1024
-    rising_most start table at bound g =
-        omega (arith, on_most p.befores p.links lasts priors p.chained i at bound g.walk, p.few)
-
     -- At link k.
-    module _ (start table : List ℕ) (at bound : ℕ) (g : Rising start table at bound) (on : at ≡ 0 → ⊥) where
-      abbrev k : ℕ
-      k = at - 1
+    module _ {start table : List ℕ} {k : ℕ} (R : Rising i ps ls start table (suc k)) where
+      here : (k < length ls) × (get_or (befores_of ls) k 0 ≡ i)
+      here = on_link C R.walk
 
-      here : (k < p.links) × (get_or p.befores k 0 ≡ i)
-      here = on_link p.befores p.links lasts priors p.chained i at bound g.walk on
+      pub rising_place : k < length ls
+      rising_place = here.0
 
-      pub rising_place : k < 1024
-      rising_place = omega (arith, here.0, p.few)
+      pub rising_after : (link k).after < length ps
+      rising_after = (fit k here.0).after_one
 
-      pub rising_after : get_or afters k 0 < 256
-      rising_after = after_small k here.0
+      pub rising_falls : get_or chains.prior k 0 < suc k
+      rising_falls = on_falls C R.walk
 
-      pub rising_falls : get_or priors k 0 < at
-      rising_falls = on_falls p.befores p.links lasts priors p.chained i at bound g.walk on
+      from_here : (link k).before ≡ i
+      from_here = sym (get_or-befores ls k) ∙ here.1
 
       -- What the code works out for it.
-      pub code-asks : leaves (eqb (get_or desks i 0) (get_or desks (get_or afters k 0) 0)) (get_or table i 0) (get_or durations i 0)
-          (get_or finishes i 0) (get_or handovers k 0)
+      pub code-asks : leaves (eqb (get_or ps i no_piece).desk (get_or ps (link k).after no_piece).desk) (get_or table i 0)
+          (get_or ps i no_piece).duration (get_or spans i no_span).finish (link k).handover
           ≡ asks J table (link k)
-      unfolding asks link_in
-      code-asks =
-          rw (
-            here.1,
-            p.desk_is i one,
-            p.desk_is (get_or afters k 0) (pieces_of k here.0).1,
-            p.duration_is i one,
-            p.finished i one,
-          )
+      unfolding asks
+      code-asks = rw (from_here, finish_is i one)
 
       grows : asks J start (link k) ≤ asks J table (link k)
-      grows = asks_grow J p.sound p.free start table (link k)
-          (g.grown (link k).before (link_fit J p.sound (link k) (p.link_mem k here.0)).before_one)
+      grows = asks_grow J P.sound P.free start table (link k) (R.grown (link k).before (fit k here.0).before_one)
 
       lower : asks J table (link k) ≤ raised J (link k).after
-      lower =
-          let f = link_fit J p.sound (link k) (p.link_mem k here.0) in
-          asks_low J p.sound p.free table (link k) (p.link_mem k here.0) (g.low.each (link k).before f.before_one)
+      lower = asks_low J P.sound P.free table (link k) (place_mem no_link ls k here.0)
+          (R.low.each (link k).before (fit k here.0).before_one)
 
-      pub rising_more : (v new : ℕ) → v ≡ asks J table (link k) → new ≡ max (get_or table (get_or afters k 0) 0) v
-          → Rising start (set table (get_or afters k 0) new) (get_or priors k 0) k
-      unfolding link_in
-      rising_more v new e is =
-          let a : ℕ = get_or afters k 0 in
-          let at_a : get_or (set table a new) a 0 ≡ new = get_or-set_same table a new 0 (omega (arith, g.low.sized, rising_after)) in
+      pub rising_more : (at v new : ℕ) → at ≡ get_or chains.prior k 0 → v ≡ asks J table (link k)
+          → new ≡ max (get_or table (link k).after 0) v → Rising i ps ls start (set table (link k).after new) at
+      rising_more at v new e asked is =
+          let a : ℕ = (link k).after in
+          let at_a : get_or (set table a new) a 0 ≡ new =
+          get_or-set_same table a new 0 (omega (arith, R.low.sized, rising_after, P.sound.few_pieces)) in
           let up : (j : ℕ) → get_or table j 0 ≤ get_or (set table a new) j 0 =
           λ j. by_eq j a (λ q. rw q (omega arith)) (λ q. omega (arith, get_or-set_other table a j new 0 q)) in
           record {
-            walk = on_next p.befores p.links lasts priors p.chained i at bound g.walk on;
+            bound = k;
+            walk = on_next C R.walk at e;
             low = record {
-              sized = length-set table a new ∙ g.low.sized;
+              sized = length-set table a new ∙ R.low.sized;
               each = λ j h.
                   by_eq j a
-                  (λ q. rw q (omega (arith, lower, g.low.each a (pieces_of k here.0).1)))
-                  (λ q. omega (arith, get_or-set_other table a j new 0 q, g.low.each j h));
+                  (λ q. rw q (omega (arith, lower, R.low.each a rising_after)))
+                  (λ q. omega (arith, get_or-set_other table a j new 0 q, R.low.each j h));
             };
-            grown = λ j h. omega (arith, g.grown j h, up j);
+            grown = λ j h. omega (arith, R.grown j h, up j);
             granted = λ j h b l. ⊎_elim
                 (λ q. rw q (omega (arith, grows)))
-                (λ q. omega (arith, g.granted j h b q, up (get_or afters j 0)))
-                (on_or_behind p.befores p.links lasts priors p.chained i at bound g.walk on j b l);
+                (λ q. omega (arith, R.granted j h b q, up (link j).after))
+                (on_or_behind C R.walk j b l);
           }
 
-    pub rising_end : (start table : List ℕ) (at bound : ℕ) → Rising start table at bound → at ≡ 0 → Risen J i start table
-    unfolding link_in
-    rising_end start table at bound g z = record {
-      low = g.low;
-      grown = g.grown;
+    pub rising_end : {start table : List ℕ} → Rising i ps ls start table 0 → Risen J i start table
+    rising_end R = record {
+      low = R.low;
+      grown = R.grown;
       granted = λ l m e.
-          let w = p.mem_link l m in
-          let b : get_or p.befores w.0 0 ≡ i = sym (ap (λ (x : Link). x.before) w.2) ∙ e in
-          let late = on_last p.befores p.links lasts priors p.chained i at bound g.walk z w.0 b in
-          rw w.2 (g.granted w.0 w.1 b late);
+          let w = mem_place no_link ls l m in
+          let b : get_or (befores_of ls) w.0 0 ≡ i = get_or-befores ls w.0 ∙ ap (λ (x : Link). x.before) w.2 ∙ e in
+          rw w.2 at (R.granted w.0 w.1 b (on_last C R.walk w.0 b));
     }
 
 -- PIECE BY PIECE: those that had their turn have their raised ready moments, and what they leave is granted.
-module _ (J : Job) (sound : Sound J) (free : ring_piece J ≡ none) (n m : ℕ) (befores afters handovers order : List ℕ)
-    (count : piece_count J ≡ n) (ordered : InOrder n m befores afters order)
-    (mem_link : (l : Link) → Mem l J.links → (k : ℕ) × (k < m) × (l ≡ link_in befores afters handovers k)) where
-  pub record Settled (table : List ℕ) (p : ℕ) : Type 0 where
-    pub low : Below J table
-    pub release : (i : ℕ) → i < piece_count J → (piece J i).release ≤ get_or table i 0
-    pub settled : (q : ℕ) → q < p → q < n → raised J (get_or order q 0) ≤ get_or table (get_or order q 0) 0
-    pub granted : (q : ℕ) → q < p → q < n → (l : Link) → Mem l J.links → l.before ≡ get_or order q 0
-        → asks J table l ≤ get_or table l.after 0
+pub record Settled (ps : List Piece) (ls : List Link) (order table : List ℕ) (p : ℕ) : Type 0 where
+  pub low : Below (job_of ps ls) table
+  pub release : (i : ℕ) → i < length ps → (get_or ps i no_piece).release ≤ get_or table i 0
+  pub settled : (q : ℕ) → q < p → q < length ps
+      → raised (job_of ps ls) (get_or order q 0) ≤ get_or table (get_or order q 0) 0
+  pub granted : (q : ℕ) → q < p → q < length ps → (l : Link) → Mem l ls → l.before ≡ get_or order q 0
+      → asks (job_of ps ls) table l ≤ get_or table l.after 0
 
-  pub settled_none : (releases table : List ℕ) → ((i : ℕ) → i < n → (piece J i).release ≡ get_or releases i 0)
-      → Released n releases table → Settled table 0
-  settled_none releases table same h = record {
+module _ {ps : List Piece} {ls : List Link} {order : List ℕ} (sound : Sound (job_of ps ls))
+    (free : ring_piece (job_of ps ls) ≡ none)
+    (ordered : InOrder (length ps) (length ls) (befores_of ls) (afters_of ls) order) where
+  abbrev K : Job
+  K = job_of ps ls
+
+  pub settled_none : (table : List ℕ) → Released ps table → Settled ps ls order table 0
+  settled_none table h = record {
     low = record {
       sized = h.sized;
       each = λ i l.
-          omega (
-            arith,
-            h.each i (omega (arith, count)),
-            same i (omega (arith, count)),
-            ready_release J i,
-            raised-ready J sound free i,
-          );
+          omega (arith, h.each i l, get_or-releases ps i, ready_release K i, raised-ready K sound free i);
     };
-    release = λ i l. omega (arith, h.each i (omega (arith, count)), same i (omega (arith, count)));
+    release = λ i l. omega (arith, h.each i l, get_or-releases ps i);
     settled = λ q l. absurd (omega arith);
     granted = λ q l. absurd (omega arith);
   }
 
   -- The place of a piece before stands earlier.
-  placed : (l : Link) → Mem l J.links → (p : ℕ) → p < n → l.after ≡ get_or order p 0
-      → (q : ℕ) × (q < p) × (q < n) × (l.before ≡ get_or order q 0)
-  unfolding link_in
+  placed : (l : Link) → Mem l ls → (p : ℕ) → p < length ps → l.after ≡ get_or order p 0
+      → (q : ℕ) × (q < p) × (q < length ps) × (l.before ≡ get_or order q 0)
   placed l x p h e =
-      let w = mem_link l x in
-      let f = link_fit J sound l x in
-      let s = ordered.everyone l.before (omega (arith, f.before_one, count)) in
-      let b : get_or order s.0 0 ≡ get_or befores w.0 0 = s.2 ∙ ap (λ (y : Link). y.before) w.2 in
-      let a : get_or order p 0 ≡ get_or afters w.0 0 = sym e ∙ ap (λ (y : Link). y.after) w.2 in
+      let w = mem_place no_link ls l x in
+      let s = ordered.everyone l.before (link_fit K sound l x).before_one in
+      let b : get_or order s.0 0 ≡ get_or (befores_of ls) w.0 0 =
+      s.2 ∙ ap (λ (y : Link). y.before) (sym w.2) ∙ sym (get_or-befores ls w.0) in
+      let a : get_or order p 0 ≡ get_or (afters_of ls) w.0 0 =
+      sym e ∙ ap (λ (y : Link). y.after) (sym w.2) ∙ sym (get_or-afters ls w.0) in
       (s.0, ordered.rises w.0 w.1 s.0 p s.1 h b a, s.1, sym s.2)
 
-  module _ (p : ℕ) (on : p < n) (start : List ℕ) (g : Settled start p) where
+  module _ (p : ℕ) (on : p < length ps) {start : List ℕ} (g : Settled ps ls order start p) where
     abbrev i : ℕ
     i = get_or order p 0
 
-    pub turn_inside : i < piece_count J
-    turn_inside = omega (arith, ordered.inside p on, count)
+    pub turn_inside : i < length ps
+    turn_inside = ordered.inside p on
 
     -- The piece whose turn it is has its raised ready moment.
-    stands : raised J i ≤ get_or start i 0
-    stands = enough J sound free start i (get_or start i 0) turn_inside (g.release i turn_inside)
+    stands : raised K i ≤ get_or start i 0
+    stands = enough K sound free start i (get_or start i 0) turn_inside (g.release i turn_inside)
         (λ l x e. let w = placed l x p on e in
         let q : get_or start l.after 0 ≡ get_or start i 0 = ap (λ (j : ℕ). get_or start j 0) e in
         omega (arith, g.granted w.0 w.1 w.2 l x w.3))
         (λ l x e o. let w = placed l x p on e in
         rw w.3 (g.settled w.0 w.1 w.2))
 
-    module _ (table : List ℕ) (h : Risen J i start table) where
+    module _ {table : List ℕ} (h : Risen K i start table) where
       -- Of a piece that had its raised ready moment the moment stays.
-      stays : (j : ℕ) → j < piece_count J → raised J j ≤ get_or start j 0 → get_or table j 0 ≤ get_or start j 0
+      stays : (j : ℕ) → j < length ps → raised K j ≤ get_or start j 0 → get_or table j 0 ≤ get_or start j 0
       stays j l r = omega (arith, h.low.each j l, r)
 
-      has : (q : ℕ) → q < p + 1 → q < n → raised J (get_or order q 0) ≤ get_or start (get_or order q 0) 0
+      has : (q : ℕ) → q < p + 1 → q < length ps → raised K (get_or order q 0) ≤ get_or start (get_or order q 0) 0
       has q l o = by_eq q p (λ e. rw e stands) (λ e. g.settled q (omega (arith, l)) o)
 
-      pub settled_more : Settled table (p + 1)
+      pub settled_more : Settled ps ls order table (p + 1)
       settled_more = record {
         low = h.low;
         release = λ j l. omega (arith, g.release j l, h.grown j l);
-        settled = λ q l o. omega (arith, has q l o, h.grown (get_or order q 0) (omega (arith, ordered.inside q o, count)));
+        settled = λ q l o. omega (arith, has q l o, h.grown (get_or order q 0) (ordered.inside q o));
         granted = λ q l o x m e.
-            let b = (link_fit J sound x m).before_one in
-            let a = (link_fit J sound x m).after_one in
-            let same = asks_grow J sound free table start x (stays x.before b (rw e (has q l o))) in
+            let b = (link_fit K sound x m).before_one in
+            let a = (link_fit K sound x m).after_one in
+            let same = asks_grow K sound free table start x (stays x.before b (rw e (has q l o))) in
             by_eq q p
             (λ z. omega (arith, same, h.granted x m (e ∙ ap (λ y. get_or order y 0) z)))
             (λ z. omega (arith, same, g.granted q (omega (arith, l)) o x m e, h.grown x.after a));
       }
 
-  pub settled_end : (table : List ℕ) (p : ℕ) → Settled table p → n ≤ p → HoldsRaised J table
+  pub settled_end : (table : List ℕ) (p : ℕ) → Settled ps ls order table p → length ps ≤ p → HoldsRaised K table
   settled_end table p g h = record {
     sized = g.low.sized;
     each = λ i l.
-        let w = ordered.everyone i (omega (arith, count)) in
+        let w = ordered.everyone i l in
         le_antisymm (g.low.each i l) (rw w.2 at (g.settled w.0 (omega (arith, w.1)) w.1));
   }

@@ -1,4 +1,4 @@
-// Raised ready moments of all pieces out of the tables of a finished plan.
+// Raised ready moments of all pieces out of a finished plan.
 #![tactic(auto)]
 
 pub mod raise;

@@ -1,22 +1,23 @@
 // Ready moments raised along the links, piece by piece in the order that the ring check found: when a piece has its turn,
 // all links into it have been looked at, so its moment stands, and each link is looked at once. No moment rises above the
 // raised ready moment.
-ghost use Rattle.std.specs.Prelude.{◌≡◌, List, ℕ, ◌≤◌, ◌<◌, length};
-ghost use Rattle.rules.specs.Job.{Job, piece_count};
+ghost use Rattle.std.specs.Prelude.{◌≡◌, ◌≤◌, ◌<◌, length};
+ghost use Rattle.rules.specs.Tables.{job_of, befores_of, afters_of, finishes_of};
+ghost use Rattle.links.specs.Chains.{Chained};
 ghost use Rattle.links.specs.Rings.{Walkable};
-ghost use Rattle.ready.specs.Planned.{Planned, Tabled, Released, leaves, Below, Risen, HoldsRaised};
+ghost use Rattle.ready.specs.Planned.{Planned, Released, leaves, Below, Risen, HoldsRaised};
 
-use blocksteps::gather::{open_end, wide};
+use blocksteps::gather::open_end;
+use links::chains::Chains;
+use links::rings::Walk;
+use rules::{Link, Piece, Span};
 
-fn take_releases(n: usize, releases: &[u32; 256], table: &mut [u32; 256])
-    requires n_bound { n ≤ 256 }
-    requires table_len { length table.old ≡ 256 }
-    ensures { Released n releases.now table.new }
+fn take_releases(pieces: &[Piece], table: &mut [u32; 256])
+    requires { length pieces.now ≤ 256 }
+    ensures { Released pieces.now table.new }
 {
-    let mut i = 0;
-    while i < n {
-        table[i] = releases[i];
-        i += 1;
+    for (i, piece) in pieces.iter().enumerate() {
+        table[i] = piece.release;
     }
 }
 
@@ -27,77 +28,66 @@ fn leave(own: bool, moment: u32, lasting: u16, ending: u32, handing: u16) -> u32
     ensures { result ≡ leaves own moment lasting ending handing }
 {
     if own {
-        return open_end(moment, wide(lasting));
+        return open_end(moment, u32::from(lasting));
     }
-    ending + wide(handing)
+    ending + u32::from(handing)
 }
 
 // What piece i leaves counts for every piece after it. Its own moment stands by then.
 fn raise_from(
     i: usize,
-    desks: &[u8; 256],
-    durations: &[u16; 256],
-    afters: &[u16; 1024],
-    handovers: &[u16; 1024],
-    lasts: &[u16; 256],
-    priors: &[u16; 1024],
-    finish: &[u32; 256],
+    pieces: &[Piece],
+    links: &[Link],
+    chains: &Chains,
+    spans: &[Span; 256],
     table: &mut [u32; 256],
 )
-    requires { (J : Job) × Tabled J desks.now durations.now afters.now handovers.now lasts.now priors.now finish.now
-        × Below J table.old × (i < piece_count J) }
-    ensures { (J : Job) → Tabled J desks.now durations.now afters.now handovers.now
-        lasts.now priors.now finish.now → Below J table.old → i < piece_count J
-        → Risen J i table.old table.new }
+    requires planned { Planned pieces.now links.now (finishes_of spans.now) }
+    requires chained { Chained (befores_of links.now) (length links.now) chains.now.last chains.now.prior }
+    requires below { Below (job_of pieces.now links.now) table.old }
+    requires one { i < length pieces.now }
+    ensures { Risen (job_of pieces.now links.now) i table.old table.new }
 {
-    let mut at = lasts[i] as usize;
-    while at != 0 {
-        let k = at - 1;
-        let a = afters[k] as usize;
-        let own = desks[i] == desks[a];
-        let t = leave(own, table[i], durations[i], finish[i], handovers[k]);
-        table[a] = numbers::greater(table[a], t);
-        at = priors[k] as usize;
+    let piece = pieces[i];
+    let mut at = chains.first(i);
+    while let Some(k) = at {
+        let link = links[k];
+        let after = usize::from(link.after);
+        let own = piece.desk == pieces[after].desk;
+        let asked = leave(
+            own,
+            table[i],
+            piece.duration,
+            spans[i].finish,
+            link.handover,
+        );
+        table[after] = table[after].max(asked);
+        at = chains.next(k);
     }
 }
 
-// THE RAISED READY MOMENTS of all pieces.
+/// THE RAISED READY MOMENTS of all pieces.
 pub fn raised_moments(
-    n: usize,
-    desks: &[u8; 256],
-    durations: &[u16; 256],
-    releases: &[u32; 256],
-    afters: &[u16; 1024],
-    handovers: &[u16; 1024],
-    lasts: &[u16; 256],
-    priors: &[u16; 1024],
-    order: &[u16; 256],
-    finish: &[u32; 256],
+    pieces: &[Piece],
+    links: &[Link],
+    walk: &Walk,
+    spans: &[Span; 256],
     table: &mut [u32; 256],
 )
-    requires by_index { (J : Job) × (m : ℕ) × (befores : List ℕ) × Planned J n m desks.now durations.now releases.now befores
-        afters.now handovers.now finish.now
-        × Walkable n m befores afters.now lasts.now priors.now order.now }
-    requires table_len { length table.old ≡ 256 }
-    ensures { (J : Job) (m : ℕ) (befores : List ℕ) → Planned J n m desks.now durations.now
-        releases.now befores afters.now handovers.now finish.now
-        → Walkable n m befores afters.now lasts.now priors.now order.now
-        → HoldsRaised J table.new }
+    requires planned { Planned pieces.now links.now (finishes_of spans.now) }
+    requires walkable { Walkable (length pieces.now) (length links.now) (befores_of links.now) (afters_of links.now)
+        walk.now.chains.last walk.now.chains.prior walk.now.order }
+    ensures { HoldsRaised (job_of pieces.now links.now) table.new }
 {
-    take_releases(n, releases, table);
-    let mut p = 0;
-    while p < n {
+    take_releases(pieces, table);
+    for p in 0..pieces.len() {
         raise_from(
-            order[p] as usize,
-            desks,
-            durations,
-            afters,
-            handovers,
-            lasts,
-            priors,
-            finish,
+            usize::from(walk.order[p]),
+            pieces,
+            links,
+            &walk.chains,
+            spans,
             table,
         );
-        p += 1;
     }
 }

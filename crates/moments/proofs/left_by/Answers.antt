@@ -36,4 +36,4 @@ pub overflow_sub-result : goal.overflow_sub-result
 overflow_sub-result c = rw (computed c) (left_fits c.requires)
 
 pub returns : goal.returns
-returns c = rw (computed c) (to_z-of_z (left_fits c.requires))
+returns c = rw (computed (goal.at.returns c).After-takes_off) (to_z-of_z (left_fits c.requires))

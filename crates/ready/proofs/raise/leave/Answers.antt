@@ -8,8 +8,8 @@ use Rattle.ready.proofs.raise.leave.Goals as goal
 
 pub returns-then-own : goal.returns-then-own
 unfolding leaves
-returns-then-own c = rw (c.if-own.true, when) (c.open_end.ensures ∙ ap (desk_end c.args.moment) c.wide.ensures.same)
+returns-then-own c = rw (c.if-own.true, when) (c.open_end.ensures ∙ ap (desk_end c.args.moment) c.from.ensures)
 
 pub returns : goal.returns
 unfolding leaves
-returns c = rw (c.if-own.false, when) (ap (λ (x : ℕ). c.args.ending + x) c.wide-2.ensures.same)
+returns c = rw (c.if-own.false, when) (ap (λ (x : ℕ). c.args.ending + x) c.from-2.ensures)

@@ -1,79 +1,80 @@
--- `raise_from` walks the chain of the links from the piece. The loop's invariant: those that are behind are granted.
-use Prim.Native.Nat.{◌-◌, ◌<◌}
+-- `raise_from` walks the chain of the links from the piece: those that are behind are granted.
+use Prim.Native.Nat.{suc, ◌<◌}
 use mathlib.Core.Path.{◌∙◌}
 use native.Mathlib.Omega.{arith}
-use lib.ListN.{get_or}
-use Rattle.ready.proofs.Raising.{early, rising_place, rising_after, rising_falls, code-asks, rising_more, rising_end}
-use Rattle.ready.proofs.raise.raise_from.Goals.{In-loop-at}
+use lib.ListN.{length, get_or}
+use Rattle.rules.specs.Tables.{no_link}
+use Rattle.ready.proofs.Raising.{Rising, early, rising_none, rising_place, rising_after, rising_falls, code-asks, rising_more, rising_end}
+use Rattle.ready.proofs.raise.raise_from.Goals.{In-Some}
 use Rattle.ready.proofs.raise.raise_from.Goals as goal
 
-module _ (c : In-loop-at) where
-  place_in : c.loop-at.at - 1 < 1024
-  place_in =
-      let w = c.requires in
-      rising_place w.0 _ _ _ _ _ _ _ w.1 _ w.3 _ _ _ _ (c.loop-at.invariant w.0 w.1 w.2 w.3).1
-      c.loop-at-test.true
+pub loop-at-init : goal.loop-at-init
+loop-at-init c = rising_none _ c.requires.planned c.requires.chained c.requires.one _ _ c.first-at.ensures c.requires.below
 
-  after_in : get_or c.args.afters.now (c.loop-at.at - 1) 0 < 256
-  after_in =
-      let w = c.requires in
-      rising_after w.0 _ _ _ _ _ _ _ w.1 _ w.3 _ _ _ _ (c.loop-at.invariant w.0 w.1 w.2 w.3).1
-      c.loop-at-test.true
+module _ (c : In-Some) where
+  rising : Rising c.args.i c.args.pieces.now c.args.links.now c.args.table.now c.loop-at.table (suc c.in-Some.k)
+  rising = rw c.in-Some.is at c.loop-at.invariant
 
-  falls : get_or c.args.priors.now (c.loop-at.at - 1) 0 < c.loop-at.at
-  falls =
-      let w = c.requires in
-      rising_falls w.0 _ _ _ _ _ _ _ w.1 _ w.3 _ _ _ _ (c.loop-at.invariant w.0 w.1 w.2 w.3).1
-      c.loop-at-test.true
+  place : c.in-Some.k < length c.args.links.now
+  place = rising_place _ c.requires.planned c.requires.chained c.requires.one rising
 
-pub offset_bounds-afters-k : goal.offset_bounds-afters-k
-offset_bounds-afters-k c = omega (arith, place_in c)
+  after : (get_or c.args.links.now c.in-Some.k no_link).after < length c.args.pieces.now
+  after = rising_after _ c.requires.planned c.requires.chained c.requires.one rising
 
-pub bounds-afters-k : goal.bounds-afters-k
-bounds-afters-k c = place_in (goal.at.bounds-afters-k c).In-loop-at
+  -- It stands inside all tables.
+  near : (get_or c.args.links.now c.in-Some.k no_link).after < 256
+  near = omega (arith, after, c.requires.planned.sound.few_pieces)
 
-pub bounds-desks-a : goal.bounds-desks-a
-bounds-desks-a c = after_in (goal.at.bounds-desks-a c).In-loop-at
+pub offset_bounds-links-k : goal.offset_bounds-links-k
+offset_bounds-links-k c = omega (arith, place c, c.requires.planned.sound.few_links)
 
-pub offset_bounds-handovers-k : goal.offset_bounds-handovers-k
-offset_bounds-handovers-k c = omega (arith, place_in (goal.at.offset_bounds-handovers-k c).In-loop-at)
+pub bounds-links-k : goal.bounds-links-k
+bounds-links-k c = place c
 
-pub bounds-handovers-k : goal.bounds-handovers-k
-bounds-handovers-k c = place_in (goal.at.bounds-handovers-k c).In-loop-at
+pub offset_bounds-pieces-after : goal.offset_bounds-pieces-after
+offset_bounds-pieces-after c = omega (arith, c.from-after.ensures, near (goal.at.offset_bounds-pieces-after c).In-Some)
 
-pub leave-t-requires : goal.leave-t-requires
-leave-t-requires c =
-    let w = c.requires in
-    let e = early w.0 _ _ _ _ _ _ _ w.1 c.loop-at.table _ w.3 (c.loop-at.invariant w.0 w.1 w.2 w.3).1.low in
+pub bounds-pieces-after : goal.bounds-pieces-after
+bounds-pieces-after c = rw c.from-after.ensures (after (goal.at.bounds-pieces-after c).In-Some)
+
+pub leave-asked-requires : goal.leave-asked-requires
+leave-asked-requires c =
+    let e = early _ c.requires.planned c.loop-at.table c.args.i c.requires.one c.loop-at.invariant.low in
     record { moment_bound = e.0; ending_bound = e.1 }
 
-pub bounds-table-a : goal.bounds-table-a
-bounds-table-a c = after_in (goal.at.bounds-table-a c).In-loop-at
+pub offset_bounds-table-after : goal.offset_bounds-table-after
+offset_bounds-table-after c = omega (arith, c.from-after.ensures, near (goal.at.offset_bounds-table-after c).In-Some)
 
-pub bounds-table-a-in-loop-at : goal.bounds-table-a-in-loop-at
-bounds-table-a-in-loop-at c = after_in (goal.at.bounds-table-a-in-loop-at c).In-loop-at
+pub bounds-table-after : goal.bounds-table-after
+bounds-table-after c = rw c.from-after.ensures (near (goal.at.bounds-table-after c).In-Some)
 
-pub offset_bounds-priors-k : goal.offset_bounds-priors-k
-offset_bounds-priors-k c = omega (arith, place_in (goal.at.offset_bounds-priors-k c).In-loop-at)
+pub offset_bounds-table-after-in-Some : goal.offset_bounds-table-after-in-Some
+offset_bounds-table-after-in-Some c =
+    omega (arith, c.from-after.ensures, near (goal.at.offset_bounds-table-after-in-Some c).In-Some)
 
-pub bounds-priors-k : goal.bounds-priors-k
-bounds-priors-k c = place_in (goal.at.bounds-priors-k c).In-loop-at
+pub bounds-table-after-in-Some : goal.bounds-table-after-in-Some
+bounds-table-after-in-Some c =
+    rw c.from-after.ensures (near (goal.at.bounds-table-after-in-Some c).In-Some)
+
+pub next-at-requires : goal.next-at-requires
+next-at-requires c =
+    omega (arith, place (goal.at.next-at-requires c).In-Some, c.requires.planned.sound.few_links)
 
 pub loop-at-smaller : goal.loop-at-smaller
-loop-at-smaller c = falls (goal.at.loop-at-smaller c).In-loop-at
+loop-at-smaller c =
+    let p = c.requires in
+    rw (c.in-Some.is, c.next-at.ensures)
+    (rising_falls _ p.planned p.chained p.one (rising (goal.at.loop-at-smaller c).In-Some))
 
 pub loop-at-preserved : goal.loop-at-preserved
-loop-at-preserved c J p low one =
-    let l = c.loop-at in
-    let g = l.invariant J p low one in
-    let v = c.leave-t in
-    let asked = v.ensures ∙ code-asks J _ _ _ _ _ _ _ p _ one _ _ _ _ g.1 c.loop-at-test.true in (
-      l.at - 1,
-      rising_more J _ _ _ _ _ _ _ p _ one _ l.table l.at _ g.1 c.loop-at-test.true v.result _ asked
-          c.greater.ensures,
-    )
+loop-at-preserved c =
+    let p = c.requires in
+    let r = rising (goal.at.loop-at-preserved c).In-Some in
+    let asked = rw c.from-after.ensures at c.leave-asked.ensures ∙ code-asks _ p.planned p.chained p.one r in
+    rw c.from-after.ensures
+    (rising_more _ p.planned p.chained p.one r _ _ _ c.next-at.ensures asked (rw c.from-after.ensures at c.max.ensures))
 
 pub returns : goal.returns
-returns c J p low one =
-    let g = c.loop-at.invariant J p low one in
-    rising_end J _ _ _ _ _ _ _ p _ one _ _ _ _ g.1 c.loop-at-test.false
+returns c =
+    let p = c.requires in
+    rising_end _ p.planned p.chained p.one (rw c.in_default.is at c.loop-at.invariant)
