@@ -1,2 +1,2 @@
-pub mod FromTables
+pub mod Bounds
 pub mod Raising

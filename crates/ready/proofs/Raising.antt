@@ -36,7 +36,7 @@ use Rattle.laws.proofs.Delay.{delay_between}
 use Rattle.laws.proofs.Hours.{end_is, end_grows}
 use Rattle.method.specs.Hours.{desk_end}
 use Rattle.ready.specs.Planned.{Planned, Released, leaves, asks, Below, Risen, HoldsRaised}
-use Rattle.ready.proofs.FromTables.{raised_most}
+use Rattle.ready.proofs.Bounds.{raised_most}
 
 module _ (J : Job) (sound : Sound J) (free : ring_piece J ≡ none) where
   -- What a link asks: of two pieces on one desk, and of two desks.

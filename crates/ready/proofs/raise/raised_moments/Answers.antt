@@ -1,4 +1,5 @@
 -- `raised_moments` meets its contract: the pieces that had their turn have their raised ready moments.
+use native.Mathlib.Omega.{arith}
 use Rattle.ready.proofs.Raising.{settled_none, settled_more, settled_end}
 use Rattle.ready.proofs.raise.raised_moments.Goals as goal
 
@@ -14,14 +15,14 @@ raise_from-requires c =
       planned = p.planned;
       chained = p.walkable.chained;
       below = c.loop-p.invariant.low;
-      one = rw c.from.ensures (p.walkable.ordered.inside c.loop-p.p c.loop-p-test.true);
+      one = rw c.from.ensures (p.walkable.ordered.inside c.loop-p.p (omega (arith, c.loop-p-test.true)));
     }
 
 pub loop-p-preserved : goal.loop-p-preserved
 loop-p-preserved c =
     let p = c.requires in
-    settled_more p.planned.sound p.planned.free p.walkable.ordered _ c.loop-p-test.true c.loop-p.invariant
-    (rw c.from.ensures at c.raise_from.ensures)
+    settled_more p.planned.sound p.planned.free p.walkable.ordered _ (omega (arith, c.loop-p-test.true))
+    c.loop-p.invariant (rw c.from.ensures at c.raise_from.ensures)
 
 pub returns : goal.returns
 returns c =
