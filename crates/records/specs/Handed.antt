@@ -1,16 +1,20 @@
 -- The stretch of one desk's runs as the call hands it back: its bytes, and where it stands in the caller's own records.
 -- So the empty stretch at the front is told from every other empty stretch.
-use Rattle.std.specs.Prelude.{ℕ, ◌+◌, ◌≤◌, List, ◌≡◌, length}
+use Rattle.std.specs.Prelude.{ℕ, ◌+◌, ◌-◌, ◌≤◌, Bool, true, false, not, List, ◌≡◌, length}
 use Rattle.std.specs.Borrow.{Bor}
 use Rattle.rules.specs.File.{whole_records}
-use Rattle.rules.specs.DeskRuns.{past_last_run, stretch_from, stretch_end, stretch}
+use Rattle.rules.specs.DeskRuns.{is_run_of, first_from, stretch_from, stretch_end, stretch}
 
--- One past the last record of the stretch that begins at record `first`: it lies between that and the last whole
--- record.
-pub record PastLast (records : List ℕ) (desk first past : ℕ) : Type 0 where
-  pub is : past ≡ past_last_run records desk first
-  pub not_before : first ≤ past
-  pub within : past ≤ whole_records records
+-- Record i is a run of the desk, or is none, as is wanted.
+abbrev pub looked_for : List ℕ → ℕ → Bool → ℕ → Bool
+looked_for records desk true i = is_run_of records desk i
+looked_for records desk false i = not (is_run_of records desk i)
+
+-- The first such record from a place on: it lies between that and the last whole record.
+pub record FirstFrom (records : List ℕ) (desk from : ℕ) (wanted : Bool) (k : ℕ) : Type 0 where
+  pub is : k ≡ first_from (looked_for records desk wanted) (whole_records records - from) from
+  pub not_before : from ≤ k
+  pub within : k ≤ whole_records records
 
 -- Where the stretch begins and ends, within the records.
 pub record Bounds (records : List ℕ) (desk from end : ℕ) : Type 0 where

@@ -1,74 +1,84 @@
-// Writes one record of a plan at a place of the lent buffer: kind, desk, a number of two bytes, and three words of four
+// One record of a plan or of a job file in the lent buffer: kind, desk, a number of two bytes, and three words of four
 // bytes, little-endian. Bytes around the record stay.
-ghost use Rattle.std.specs.Prelude.{◌≡◌, [], ◌∷◌, ◌++◌, ◌+◌, ◌≤◌, length};
+ghost use Rattle.std.specs.Prelude.{◌≡◌, ◌+◌, ◌≤◌, length};
 ghost use Rattle.std.proofs.lemmas.List.Edits.{sets};
-ghost use Rattle.rules.specs.Bytes.{half, word, signed_word, plan_record};
+ghost use Rattle.records.specs.Laid.{code_of, row_bytes};
+ghost use Rattle.rules.specs.Bytes.{word, signed_word};
 
-// The word of a signed number, two's complement.
+/// The kinds of records, in the job file and in the buffers.
+#[derive(Clone, Copy, Debug, PartialEq, Eq)]
+pub enum Kind {
+    Piece,
+    Link,
+    Result,
+    Run,
+    Block,
+}
+
+impl From<Kind> for u8 {
+    ghost from_gives = { λ kind n. n ≡ code_of kind };
+
+    fn from(kind: Kind) -> u8 {
+        match kind {
+            Kind::Piece => 1,
+            Kind::Link => 2,
+            Kind::Result => 17,
+            Kind::Run => 18,
+            Kind::Block => 19,
+        }
+    }
+}
+
+/// What a record says, field by field in the order of its bytes.
+#[derive(Clone, Copy, Debug, PartialEq, Eq)]
+pub struct Row {
+    pub kind: Kind,
+    pub desk: u8,
+    pub number: u16,
+    pub words: [u32; 3],
+}
+
+impl Row {
+    /// Its 16 bytes.
+    pub fn to_bytes(self) -> [u8; 16]
+        ensures { result ≡ row_bytes self }
+    {
+        let [n0, n1] = self.number.to_le_bytes();
+        let [a0, a1, a2, a3] = self.words[0].to_le_bytes();
+        let [b0, b1, b2, b3] = self.words[1].to_le_bytes();
+        let [c0, c1, c2, c3] = self.words[2].to_le_bytes();
+        [
+            u8::from(self.kind),
+            self.desk,
+            n0,
+            n1,
+            a0,
+            a1,
+            a2,
+            a3,
+            b0,
+            b1,
+            b2,
+            b3,
+            c0,
+            c1,
+            c2,
+            c3,
+        ]
+    }
+
+    /// Puts the record at a place of the buffer.
+    pub fn put(self, buffer: &mut [u8], at: usize)
+        requires { at + 16 ≤ length buffer.old }
+        ensures { buffer.new ≡ sets buffer.old at (row_bytes self) }
+    {
+        buffer[at..at + 16].copy_from_slice(&self.to_bytes());
+    }
+}
+
+/// The word of a signed number, two's complement.
 pub fn signed_word(x: i32) -> u32
     ensures { word result ≡ signed_word x }
 {
-    if x < 0 {
-        return 4294967295 - ((-1 - x) as u32);
-    }
-    x as u32
-}
-
-// Four bytes one behind the other: all that a record is made of.
-fn put_four(buffer: &mut [u8], at: usize, a: u8, b: u8, c: u8, d: u8)
-    requires { at + 4 ≤ length buffer.old }
-    ensures { buffer.new ≡ sets buffer.old at (a ∷ b ∷ c ∷ d ∷ []) }
-{
-    buffer[at] = a;
-    buffer[at + 1] = b;
-    buffer[at + 2] = c;
-    buffer[at + 3] = d;
-}
-
-fn put_word(buffer: &mut [u8], at: usize, x: u32)
-    requires { at + 4 ≤ length buffer.old }
-    ensures { buffer.new ≡ sets buffer.old at (word x) }
-{
-    put_four(
-        buffer,
-        at,
-        (x % 256) as u8,
-        (x / 256 % 256) as u8,
-        (x / 65536 % 256) as u8,
-        (x / 16777216 % 256) as u8,
-    );
-}
-
-fn put_head(buffer: &mut [u8], at: usize, kind: u8, desk: u8, number: u16)
-    requires { at + 4 ≤ length buffer.old }
-    ensures { buffer.new ≡ sets buffer.old at (kind ∷ desk ∷ half number) }
-{
-    put_four(
-        buffer,
-        at,
-        kind,
-        desk,
-        (number % 256) as u8,
-        (number / 256 % 256) as u8,
-    );
-}
-
-pub fn put_record(
-    buffer: &mut [u8],
-    at: usize,
-    kind: u8,
-    desk: u8,
-    number: u16,
-    a: u32,
-    b: u32,
-    c: u32,
-)
-    requires { at + 16 ≤ length buffer.old }
-    ensures { buffer.new
-        ≡ sets buffer.old at (plan_record kind desk number (word a) (word b) (word c)) }
-{
-    put_head(buffer, at, kind, desk, number);
-    put_word(buffer, at + 4, a);
-    put_word(buffer, at + 8, b);
-    put_word(buffer, at + 12, c);
+    x.cast_unsigned()
 }

@@ -8,7 +8,7 @@ pub returns : goal.returns
 unfolding stretch
 returns c =
     let a = c.args in
-    let b = c.stretch_of-s.ensures in
+    let b = c.stretch_of-from.ensures in
     record {
       bytes = rw (b.begins, b.ends);
       block = refl;
