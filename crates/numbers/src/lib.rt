@@ -1,6 +1,7 @@
 // A few functions on plain numbers that more than one station uses. None of them asks anything of its caller.
 #![tactic(auto)]
 
+pub mod lateness;
 pub mod signed;
 
 ghost use Rattle.std.specs.Prelude.{◌≡◌, ◌-◌, ◌<◌, min, max};

@@ -3,16 +3,16 @@
 use Prim.Native.Nat.{ℕ, zero, suc, ◌+◌, ◌-◌, ◌≤◌, ◌<◌}
 use mathlib.Core.Bool.{true, false}
 use mathlib.Core.List.{List}
-use mathlib.Core.Path.{◌≡◌, sym, ap, subst, ◌∙◌}
+use mathlib.Core.Path.{◌≡◌, refl, sym, ap, subst, ◌∙◌}
 use native.Mathlib.Numerals.{add-one}
 use native.Mathlib.Omega.{arith}
 use borrow.Author.Tests.{eqb-true, eqb-false, ltb-true, ltb-false}
 use lib.Dec.{eqb, ltb}
-use lib.ListN.{get_or, set, length-set}
+use lib.ListN.{get_or, set, length-set, replicate, get_or-replicate}
 use lib.Seq.{get_or-set_same, get_or-set_other}
 use Rattle.rules.specs.Words.{when}
 use Rattle.laws.proofs.Words.{by_test, when_true, when_false}
-use Rattle.output.specs.Chained.{desk_at, next_run, RunsChained, ToChain}
+use Rattle.output.specs.Chained.{desk_at, next_run, RunsChained}
 
 -- How much of a log is left from the run that a chain has come to; nothing at its end.
 abbrev pub ahead : ℕ → ℕ → ℕ
@@ -29,12 +29,11 @@ module _ (desks pieces : List ℕ) where
   unfolding next_run
   some_from d left k l e = rw e
 
-  pub no_run_chained : (count : ℕ) (first later : List ℕ) → ToChain first later →
-      RunsChained desks pieces count count first later
-  no_run_chained count first later h = record {
-    first_sized = h.first_sized;
-    later_sized = h.later_sized;
-    begins = λ d l. h.cleared d l ∙ sym (none_from d (count - count) count (omega arith));
+  pub no_run_chained : (count : ℕ) → RunsChained desks pieces count count (replicate 256 0) (replicate 512 0)
+  no_run_chained count = record {
+    first_sized = refl;
+    later_sized = refl;
+    begins = λ d l. get_or-replicate 256 d 0 0 l ∙ sym (none_from d (count - count) count (omega arith));
     goes_on = λ j a b. absurd (omega arith);
   }
 

@@ -1,13 +1,13 @@
 -- The run records of all desks, desk by desk, each desk's right behind those of the desks before it.
 use Prim.Native.Nat.{ℕ, zero, suc, ◌+◌, ◌-◌, ◌≤◌, ◌<◌}
 use mathlib.Core.List.{List, ◌++◌}
-use mathlib.Core.Path.{◌≡◌, refl, sym, ap, ◌∙◌}
+use mathlib.Core.Path.{◌≡◌, sym, ap, ◌∙◌}
 use native.Mathlib.Omega.{arith}
 use native.Mathlib.Numerals.{add-one}
 use lib.ListN.{length, length-append}
-use lib.Seq.{sets}
 use Rattle.laws.proofs.Joined.{joined_more}
-use Rattle.records.proofs.Stores.{sets_on}
+use Rattle.records.specs.declared.lent.Lent.{Lent}
+use Rattle.records.proofs.PutLaws.{nothing_put, puts_on, puts_as}
 use Rattle.output.specs.Written.{desk_runs_in, runs_in, Logged, AllLogged}
 
 module _ (count : ℕ) (desks pieces froms untils : List ℕ) where
@@ -42,20 +42,10 @@ module _ (count : ℕ) (desks pieces froms untils : List ℕ) where
       rw q at (grow (suc d) (n - suc d)) in
       omega (arith, desk-length d)
 
-  pub no_desk_yet : (b : List ℕ) (at : ℕ) → AllLogged count desks pieces froms untils b at 0 b at
+  pub no_desk_yet : (old : Lent) → AllLogged count desks pieces froms untils old 0 old
   unfolding runs_in
-  no_desk_yet b at = record { same = refl; bytes = refl; past = omega arith }
+  no_desk_yet old = nothing_put old
 
-  pub one_desk_more : (b : List ℕ) (at d : ℕ) (buf : List ℕ) (next : ℕ) (buf' : List ℕ) (next' : ℕ)
-      → AllLogged count desks pieces froms untils b at d buf next
-      → Logged desks pieces froms untils d buf next count buf' next'
-      → AllLogged count desks pieces froms untils b at (d + 1) buf' next'
-  one_desk_more b at d buf next buf' next' a l = rw add-one (record {
-    same = l.same ∙ a.same;
-    bytes = l.bytes ∙ ap (λ x. sets x next (desk_runs_in count desks pieces froms untils d)) a.bytes
-        ∙ ap (λ x. sets (sets b at (runs_in d count desks pieces froms untils)) x
-        (desk_runs_in count desks pieces froms untils d)) a.past
-        ∙ sets_on b at (runs_in d count desks pieces froms untils) (desk_runs_in count desks pieces froms untils d)
-        ∙ ap (sets b at) (sym (desk_more d));
-    past = omega (arith, l.past, a.past, desk-length d);
-  })
+  pub one_desk_more : {old mid new : Lent} (d : ℕ) → AllLogged count desks pieces froms untils old d mid
+      → Logged desks pieces froms untils d mid count new → AllLogged count desks pieces froms untils old (d + 1) new
+  one_desk_more d a l = rw add-one (puts_as (puts_on a l) (sym (desk_more d)))

@@ -9,13 +9,14 @@ use native.Mathlib.Omega.{arith}
 use borrow.Author.Tests.{ltb-true, ltb-false}
 use lib.Dec.{ltb}
 use lib.IntN.{ℤ, pos, negsuc}
-use lib.Signed.{mag}
+use Rattle.std.specs.Int.{int_max}
+use lib.Signed.{mag, lt_z}
 use mir.Syntax.{w32}
 use mir.Val.{SFits}
 use Rattle.rules.specs.Words.{when, greater, greatest, greater_z, greatest_z, worst_of, row, below}
 use Rattle.laws.proofs.Words.{by_test, mem_below, below_mem, greater_left, greater_right, greater_least}
 use Rattle.laws.proofs.Words.{greatest_of, greatest_within}
-use Rattle.laws.proofs.Signed.{◌≼◌, same, greater_z_left, greater_z_right, greater_z_least}
+use Rattle.laws.proofs.Signed.{◌≼◌, same, lt_z_lt, lt_z_le, greater_z_left, greater_z_right, greater_z_least}
 use Rattle.laws.proofs.Signed.{greatest_z_start, greatest_z_mem, greatest_z_least}
 use Rattle.laws.proofs.Words.{mem_map, mem_row, row_mem}
 use Rattle.laws.proofs.Joined.{mem_of_map}
@@ -27,6 +28,16 @@ unfolding greater
 max_is a b =
     by_test (ltb a b) (λ e. rw (e, when) (omega (arith, ltb-true a b e)))
     (λ e. rw (e, when) (omega (arith, ltb-false a b e)))
+
+pub int_max_is : (a b : ℤ) → int_max a b ≡ greater_z a b
+unfolding greater_z
+int_max_is a b = by_test (lt_z b a)
+    (λ e. by_test (lt_z a b)
+    (λ f. absurd (omega (arith, lt_z_lt b a e, lt_z_lt a b f)))
+    (λ f. rw (e, f, when)))
+    (λ e. by_test (lt_z a b)
+    (λ f. rw (e, f, when))
+    (λ f. rw (e, f, when) (same b a (omega (arith, lt_z_le b a e, lt_z_le a b f)))))
 
 pub largest_more : (f : ℕ → ℕ) (k : ℕ) → greater (greatest 0 (map f (below k))) (f k)
     ≡ greatest 0 (map f (below (k + 1)))

@@ -4,21 +4,20 @@ use Prim.Native.Nat.{ℕ, zero, suc, ◌+◌, ◌-◌, ◌*◌, ◌≤◌, ◌<�
 use mathlib.Core.Bool.{true, false}
 use mathlib.Core.List.{List, ◌++◌, map}
 use mathlib.Core.Path.{◌≡◌, refl, sym, ap, ◌∙◌}
-use native.Mathlib.Nat.{zero-add}
 use native.Mathlib.Omega.{arith}
 use native.Mathlib.Numerals.{add-one}
 use lib.IntN.{ℤ, pos}
 use lib.ListN.{length, get_or, length-append, length-map}
-use lib.Seq.{sets, length-sets}
 use lib.Dec.{eqb}
 use Rattle.rules.specs.Words.{keep, below, joined}
 use Rattle.rules.specs.Bytes.{word, signed_word, plan_record, run_record, last_word}
 use Rattle.steps.specs.Log.{run_at, logged_runs}
 use Rattle.laws.proofs.Words.{by_test, length-below}
-use Rattle.laws.proofs.Joined.{kept_more, not_kept_more, map_twice, mem_of_map}
+use Rattle.laws.proofs.Joined.{joined_more, kept_more, not_kept_more, map_twice, mem_of_map}
 use Rattle.laws.proofs.Bytes.{word_sized, signed_sized, record_sized, run_sized, records_sized}
-use Rattle.records.proofs.Stores.{sets_on}
-use Rattle.records.proofs.InARow.{put_more}
+use Rattle.records.specs.Puts.{Puts}
+use Rattle.records.specs.declared.lent.Lent.{Lent}
+use Rattle.records.proofs.PutLaws.{nothing_put, puts_on, puts_as}
 use Rattle.output.specs.Written.{result_in, results_in, desk_runs_in, Logged}
 
 module _ (desks starts finishes : List ℕ) (latests : List ℤ) where
@@ -44,20 +43,18 @@ module _ (desks starts finishes : List ℕ) (latests : List ℤ) where
       rw w.2 (result_length w.0))
       ∙ ap (λ x. 16 * x) (length-map (below n) (result_in desks starts finishes latests) ∙ length-below n)
 
-  -- One record more, as `put_record` stores it.
-  pub results_step : (b buf buf' : List ℕ) (i w : ℕ) → buf ≡ sets b 0 (results_in i desks starts finishes latests)
+  -- One record more.
+  pub results_step : {old mid new : Lent} (i w : ℕ) → Puts old (results_in i desks starts finishes latests) mid
       → word w ≡ signed_word (get_or latests i (pos 0))
-      → buf' ≡ sets buf (16 * i)
-      (plan_record 17 (get_or desks i 0) i (word (get_or starts i 0)) (word (get_or finishes i 0)) (word w))
-      → (length buf' ≡ length buf) × (buf' ≡ sets b 0 (results_in (i + 1) desks starts finishes latests))
+      → Puts mid (plan_record 17 (get_or desks i 0) i (word (get_or starts i 0)) (word (get_or finishes i 0)) (word w)) new
+      → Puts old (results_in (i + 1) desks starts finishes latests) new
   unfolding results_in
-  results_step b buf buf' i w before signed put =
-      put_more (result_in desks starts finishes latests) result_length b 0 buf buf' i before
-      (put
-      ∙ ap (λ x. sets buf (16 * i)
-      (plan_record 17 (get_or desks i 0) i (word (get_or starts i 0)) (word (get_or finishes i 0)) x)) signed
-      ∙ ap (sets buf (16 * i)) (sym (result_is i))
-      ∙ ap (λ k. sets buf k (result_in desks starts finishes latests i)) (sym (zero-add (16 * i))))
+  results_step i w before signed put =
+      puts_as (puts_on before (puts_as put (
+      ap (plan_record 17 (get_or desks i 0) i (word (get_or starts i 0)) (word (get_or finishes i 0))) signed
+      ∙ sym (result_is i))))
+      (sym (ap (λ k. joined (map (result_in desks starts finishes latests) (below k))) (add-one i)
+      ∙ joined_more (result_in desks starts finishes latests) i))
 
 module _ (desks pieces froms untils : List ℕ) (d : ℕ) where
   -- The places of the desk's runs among the first n of the log.
@@ -121,43 +118,16 @@ module _ (desks pieces froms untils : List ℕ) (d : ℕ) where
   unfolding run_record last_word
   run_is k = refl
 
-  pub none_logged : (b : List ℕ) (at : ℕ) → Logged desks pieces froms untils d b at 0 b at
+  pub none_logged : (old : Lent) → Logged desks pieces froms untils d old 0 old
   unfolding desk_runs_in logged_runs keep below
-  none_logged b at = record { same = refl; bytes = refl; past = omega arith }
+  none_logged old = nothing_put old
 
-  pub one_logged : (b : List ℕ) (at k : ℕ) (buf buf' : List ℕ) (next : ℕ)
-      → Logged desks pieces froms untils d b at k buf next
+  pub one_logged : {old mid new : Lent} (k : ℕ) → Logged desks pieces froms untils d old k mid
       → eqb (get_or desks (get_or pieces k 0) 0) d ≡ true
-      → buf' ≡ sets buf next
-      (plan_record 18 d (get_or pieces k 0) (word (get_or froms k 0)) (word (get_or untils k 0)) (word 0))
-      → Logged desks pieces froms untils d b at (k + 1) buf' (next + 16)
-  one_logged b at k buf buf' next l e put = rw add-one (record {
-    same =
-        ap length put
-        ∙ length-sets buf next
-        (plan_record 18 d (get_or pieces k 0) (word (get_or froms k 0)) (word (get_or untils k 0)) (word 0)) ∙ l.same;
-    bytes =
-        put ∙ ap (sets buf next) (sym (run_is k))
-        ∙ ap (λ x. sets x next (run_record d (run_at pieces froms untils k))) l.bytes
-        ∙ ap (λ x. sets (sets b at (desk_runs_in k desks pieces froms untils d)) x
-        (run_record d (run_at pieces froms untils k))) l.past
-        ∙ sets_on b at (desk_runs_in k desks pieces froms untils d) (run_record d (run_at pieces froms untils k))
-        ∙ ap (sets b at) (sym (run_more k e));
-    past = omega (
-      arith,
-      l.past,
-      ap length (run_more k e),
-      length-append (desk_runs_in k desks pieces froms untils d)
-          (run_record d (run_at pieces froms untils k)),
-      run_sized d (run_at pieces froms untils k),
-    );
-  })
+      → Puts mid (plan_record 18 d (get_or pieces k 0) (word (get_or froms k 0)) (word (get_or untils k 0)) (word 0)) new
+      → Logged desks pieces froms untils d old (k + 1) new
+  one_logged k l e put = rw add-one (puts_as (puts_on l (puts_as put (sym (run_is k)))) (sym (run_more k e)))
 
-  pub one_passed : (b : List ℕ) (at k : ℕ) (buf : List ℕ) (next : ℕ)
-      → Logged desks pieces froms untils d b at k buf next
-      → eqb (get_or desks (get_or pieces k 0) 0) d ≡ false → Logged desks pieces froms untils d b at (k + 1) buf next
-  one_passed b at k buf next l e = rw add-one (record {
-    same = l.same;
-    bytes = l.bytes ∙ ap (sets b at) (sym (run_passed k e));
-    past = l.past ∙ ap (λ x. at + length x) (sym (run_passed k e));
-  })
+  pub one_passed : {old mid : Lent} (k : ℕ) → Logged desks pieces froms untils d old k mid
+      → eqb (get_or desks (get_or pieces k 0) 0) d ≡ false → Logged desks pieces froms untils d old (k + 1) mid
+  one_passed k l e = rw add-one (puts_as l (sym (run_passed k e)))

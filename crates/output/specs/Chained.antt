@@ -1,6 +1,6 @@
 -- The runs of the log chained desk by desk, as `chain_runs` lays them: from each run to the next of the same desk.
 use Prim.Native.Nat.{ℕ, zero, suc, ◌+◌, ◌-◌, ◌≤◌, ◌<◌}
-use Rattle.std.specs.Prelude.{List, ◌≡◌, eqb, length, get_or}
+use Rattle.std.specs.Prelude.{Option, None, Some, List, ◌≡◌, eqb, length, get_or}
 use Rattle.rules.specs.Words.{when}
 
 module _ (desks pieces : List ℕ) where
@@ -21,8 +21,7 @@ module _ (desks pieces : List ℕ) where
     pub begins : (d : ℕ) → d < 256 → get_or first d 0 ≡ next_run d (count - k) k
     pub goes_on : (j : ℕ) → k ≤ j → j < count → get_or later j 0 ≡ next_run (desk_at j) (count - (j + 1)) (j + 1)
 
--- What the chains are laid into: tables for 256 desks and 512 runs, the first runs still clear.
-pub record ToChain (first later : List ℕ) : Type 0 where
-  pub first_sized : length first ≡ 256
-  pub later_sized : length later ≡ 512
-  pub cleared : (d : ℕ) → d < 256 → get_or first d 0 ≡ 0
+-- The number that stands for a place of the log in a chain.
+abbrev pub code_of : Option ℕ → ℕ
+code_of None = 0
+code_of (Some k) = k + 1

@@ -1,10 +1,11 @@
 -- The bytes of result and run records in terms of the tables of a finished plan: for each piece its desk, start, finish
 -- and latest moment; for each run of the log its piece, its first slot and one past its last.
-use Rattle.std.specs.Prelude.{ℕ, ◌+◌, ◌≤◌, ◌<◌, List, map, ◌≡◌, ℤ, pos, length, get_or}
-use Rattle.std.proofs.lemmas.List.Edits.{sets}
+use Rattle.std.specs.Prelude.{ℕ, ◌≤◌, ◌<◌, List, map, ℤ, pos, get_or}
 use Rattle.rules.specs.Words.{below, joined}
 use Rattle.rules.specs.Bytes.{word, signed_word, plan_record, run_record}
 use Rattle.steps.specs.Log.{logged_runs}
+use Rattle.records.specs.Puts.{Puts}
+use Rattle.records.specs.declared.lent.Lent.{Lent}
 
 unfoldable pub result_in : List ℕ → List ℕ → List ℕ → List ℤ → ℕ → List ℕ
 unfolding plan_record word signed_word
@@ -26,22 +27,15 @@ unfoldable pub runs_in : ℕ → ℕ → List ℕ → List ℕ → List ℕ → 
 unfolding joined desk_runs_in below
 runs_in n count desks pieces froms untils = joined (map (desk_runs_in count desks pieces froms untils) (below n))
 
--- The log has at most 512 runs, of pieces that there are.
-pub record LogFits (count : ℕ) (pieces : List ℕ) : Type 0 where
+-- The log has at most 512 runs, of n pieces.
+pub record LogFits (count : ℕ) (pieces : List ℕ) (n : ℕ) : Type 0 where
   pub few : count ≤ 512
-  pub known : (k : ℕ) → k < count → get_or pieces k 0 < 256
+  pub known : (k : ℕ) → k < count → get_or pieces k 0 < n
 
--- The records of the desk among the first k of the log stand in the buffer, which was b, from `at` on; the next record
--- goes right behind them.
-module _ (desks pieces froms untils : List ℕ) (d : ℕ) where
-  pub record Logged (b : List ℕ) (at k : ℕ) (buf : List ℕ) (next : ℕ) : Type 0 where
-    pub same : length buf ≡ length b
-    pub bytes : buf ≡ sets b at (desk_runs_in k desks pieces froms untils d)
-    pub past : next ≡ at + length (desk_runs_in k desks pieces froms untils d)
+-- The records of desk d among the first k of the log are put.
+abbrev pub Logged : List ℕ → List ℕ → List ℕ → List ℕ → ℕ → Lent → ℕ → Lent → Type 0
+Logged desks pieces froms untils d old k new = Puts old (desk_runs_in k desks pieces froms untils d) new
 
--- The records of the first n desks stand in the buffer, which was b, from `at` on.
-module _ (count : ℕ) (desks pieces froms untils : List ℕ) where
-  pub record AllLogged (b : List ℕ) (at n : ℕ) (buf : List ℕ) (next : ℕ) : Type 0 where
-    pub same : length buf ≡ length b
-    pub bytes : buf ≡ sets b at (runs_in n count desks pieces froms untils)
-    pub past : next ≡ at + length (runs_in n count desks pieces froms untils)
+-- The records of the first n desks are put.
+abbrev pub AllLogged : ℕ → List ℕ → List ℕ → List ℕ → List ℕ → Lent → ℕ → Lent → Type 0
+AllLogged count desks pieces froms untils old n new = Puts old (runs_in n count desks pieces froms untils) new

@@ -1,97 +1,49 @@
-// Run records by desk and then by start, behind the result records. The log has the runs in the order in which they
-// begin, so each desk's runs stand in it by start; they are chained, so that no desk looks at the runs of another.
+// Run records by desk and then by start.
 ghost use Rattle.std.specs.Prelude.{◌+◌, ◌≤◌, ◌<◌, ◌≡◌, length};
-ghost use Rattle.std.proofs.lemmas.List.Edits.{sets};
-ghost use Rattle.output.specs.Chained.{ToChain, RunsChained};
-ghost use Rattle.output.specs.Written.{LogFits, Logged, desk_runs_in, runs_in};
+ghost use Rattle.records.specs.Puts.{Puts, Room};
+ghost use Rattle.rules.specs.Tables.{desks_of, run_pieces, run_froms, run_untils};
+ghost use Rattle.output.specs.Chained.{RunsChained};
+ghost use Rattle.output.specs.Written.{LogFits, desk_runs_in, runs_in};
 
-use records::put::put_record;
+use crate::chains::RunChains;
+use records::lent::Lent;
+use records::put::{Kind, Row};
+use rules::{Piece, Run};
 
-// A desk's place in a table of all numbers of one byte.
-fn place_of(desk: u8) -> usize
-    ensures { (result ≡ desk) × (result < 256) }
+// The run records of one desk along its chain. The pieces are what the contract asks the chains of.
+fn put_desk_runs(desk: u8, pieces: &[Piece], runs: &[Run], chains: &RunChains, buffer: &mut Lent)
+    requires log_fits { LogFits (length runs.now) (run_pieces runs.now) (length pieces.now) }
+    requires chained { RunsChained (desks_of pieces.now) (run_pieces runs.now) (length runs.now) 0 chains.now.first
+        chains.now.later }
+    requires room { Room buffer.old (length (desk_runs_in (length runs.now) (desks_of pieces.now) (run_pieces runs.now)
+        (run_froms runs.now) (run_untils runs.now) desk)) }
+    ensures { Puts buffer.old (desk_runs_in (length runs.now) (desks_of pieces.now) (run_pieces runs.now)
+        (run_froms runs.now) (run_untils runs.now) desk) buffer.new }
 {
-    desk as usize
-}
-
-// The runs of each desk, chained from the first to the last: `first[d]` is one more than the place in the log of the
-// first run of desk d, and `later[k]` one more than the place of the next run of the same desk as run k; 0 ends a
-// chain.
-fn chain_runs(
-    count: usize,
-    desks: &[u8; 256],
-    pieces: &[u16; 512],
-    first: &mut [u16; 256],
-    later: &mut [u16; 512],
-)
-    requires { LogFits count pieces.now × ToChain first.old later.old }
-    ensures { RunsChained desks.now pieces.now count 0 first.new
-        later.new }
-{
-    let mut k = count;
-    while 0 < k {
-        k -= 1;
-        let desk = place_of(desks[pieces[k] as usize]);
-        later[k] = first[desk];
-        first[desk] = (k + 1) as u16;
+    let mut next = chains.first(desk);
+    while let Some(k) = next {
+        let run = runs[k];
+        let row = Row {
+            kind: Kind::Run,
+            desk,
+            number: run.piece,
+            words: [run.from, run.until, 0],
+        };
+        row.put(buffer);
+        next = chains.next(k);
     }
 }
 
-// The run records of one desk along its chain, from a place of the buffer on; the place behind them. The desks and the
-// count of runs are what the contract asks the chains of.
-fn put_desk_runs(
-    desk: u8,
-    count: usize,
-    desks: &[u8; 256],
-    pieces: &[u16; 512],
-    froms: &[u32; 512],
-    untils: &[u32; 512],
-    first: &[u16; 256],
-    later: &[u16; 512],
-    at: usize,
-    buffer: &mut [u8],
-) -> usize
-    requires log_fits { LogFits count pieces.now × RunsChained desks.now pieces.now count 0 first.now later.now }
-    requires desk_in_bounds { at + length (desk_runs_in count desks.now pieces.now froms.now untils.now desk)
-        ≤ length buffer.old }
-    ensures { Logged desks.now pieces.now froms.now untils.now desk
-        buffer.old at count buffer.new result }
+/// Puts all run records, by desk.
+pub fn put_runs(pieces: &[Piece], runs: &[Run], buffer: &mut Lent)
+    requires log_fits { LogFits (length runs.now) (run_pieces runs.now) (length pieces.now) }
+    requires room { Room buffer.old (length (runs_in 32 (length runs.now) (desks_of pieces.now) (run_pieces runs.now)
+        (run_froms runs.now) (run_untils runs.now))) }
+    ensures { Puts buffer.old (runs_in 32 (length runs.now) (desks_of pieces.now) (run_pieces runs.now)
+        (run_froms runs.now) (run_untils runs.now)) buffer.new }
 {
-    let mut next = at;
-    let mut run = first[place_of(desk)] as usize;
-    while run != 0 {
-        let k = run - 1;
-        put_record(buffer, next, 18, desk, pieces[k], froms[k], untils[k], 0);
-        next += 16;
-        run = later[k] as usize;
-    }
-    next
-}
-
-// All run records, by desk.
-pub fn put_runs(
-    count: usize,
-    desks: &[u8; 256],
-    pieces: &[u16; 512],
-    froms: &[u32; 512],
-    untils: &[u32; 512],
-    at: usize,
-    buffer: &mut [u8],
-)
-    requires { LogFits count pieces.now
-        × (at + length (runs_in 32 count desks.now pieces.now froms.now untils.now) ≤ length buffer.old) }
-    ensures { buffer.new ≡ sets buffer.old at (runs_in 32 count desks.now
-        pieces.now froms.now untils.now) }
-{
-    let mut first = [0u16; 256];
-    let mut later = [0u16; 512];
-    chain_runs(count, desks, pieces, &mut first, &mut later);
-    let mut next = at;
-    let mut desk: u8 = 0;
-    while desk < 32 {
-        next = put_desk_runs(
-            desk, count, desks, pieces, froms, untils, &first, &later, next, buffer,
-        );
-        desk += 1;
+    let chains = RunChains::new(pieces, runs);
+    for desk in 0..32 {
+        put_desk_runs(desk, pieces, runs, &chains, buffer);
     }
 }

@@ -5,3 +5,4 @@ pub mod Stores
 pub mod InARow
 pub mod TwosComplement
 pub mod Front
+pub mod PutLaws

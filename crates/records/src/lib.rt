@@ -2,5 +2,6 @@
 // the caller's own records.
 #![tactic(auto)]
 
+pub mod lent;
 pub mod put;
 pub mod stretch;

@@ -1,9 +1,11 @@
 // One record of a plan or of a job file in the lent buffer: kind, desk, a number of two bytes, and three words of four
 // bytes, little-endian. Bytes around the record stay.
-ghost use Rattle.std.specs.Prelude.{◌≡◌, ◌+◌, ◌≤◌, length};
-ghost use Rattle.std.proofs.lemmas.List.Edits.{sets};
+ghost use Rattle.std.specs.Prelude.{◌≡◌};
 ghost use Rattle.records.specs.Laid.{code_of, row_bytes};
+ghost use Rattle.records.specs.Puts.{Puts, Room};
 ghost use Rattle.rules.specs.Bytes.{word, signed_word};
+
+use crate::lent::Lent;
 
 /// The kinds of records, in the job file and in the buffers.
 #[derive(Clone, Copy, Debug, PartialEq, Eq)]
@@ -67,12 +69,12 @@ impl Row {
         ]
     }
 
-    /// Puts the record at a place of the buffer.
-    pub fn put(self, buffer: &mut [u8], at: usize)
-        requires { at + 16 ≤ length buffer.old }
-        ensures { buffer.new ≡ sets buffer.old at (row_bytes self) }
+    /// Puts the record behind what is written of the buffer.
+    pub fn put(self, lent: &mut Lent)
+        requires { Room lent.old 16 }
+        ensures { Puts lent.old (row_bytes self) lent.new }
     {
-        buffer[at..at + 16].copy_from_slice(&self.to_bytes());
+        lent.put(&self.to_bytes());
     }
 }
 

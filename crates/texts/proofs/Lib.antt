@@ -1,2 +1,2 @@
--- Laws of texts put one behind the other.
+-- Laws of the digits of a number.
 pub mod TextLaws

@@ -1,2 +1,2 @@
--- What a text gained by a put.
-pub mod Puts
+-- What the contracts of this crate cite: a field put.
+pub mod Fields

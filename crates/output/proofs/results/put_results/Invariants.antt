@@ -1,15 +1,10 @@
--- `put_results` meets its contract: each record is stored right behind the ones before it.
-use Prim.Native.Nat.{◌≤◌, ◌-◌}
-use mathlib.Core.Path.{◌≡◌}
-use lib.ListN.{length}
-use lib.Seq.{sets}
+-- `put_results` meets its contract: each record is put right behind the ones before it.
+use Rattle.records.specs.Puts.{Puts}
+use Rattle.rules.specs.Tables.{desks_of, starts_of, finishes_of}
 use Rattle.output.specs.Written.{results_in}
 use Rattle.output.proofs.results.put_results.Given as goal
 
 abbrev pub invariant-loop-i : goal.invariant-loop-i
 invariant-loop-i l =
-    (l.i ≤ l.n) × (length l.buffer ≡ length l.initial.buffer) × (l.buffer ≡ sets l.initial.buffer 0
-    (results_in l.i l.desks l.starts l.finishes l.latests))
-
-abbrev pub decreases-loop-i : goal.decreases-loop-i
-decreases-loop-i l = l.n - l.i
+    Puts l.initial.buffer
+    (results_in l.i (desks_of l.pieces) (starts_of l.spans) (finishes_of l.spans) l.latests) l.buffer

@@ -1,78 +1,55 @@
 -- `put_desk_runs` meets its contract: along the desk's chain, each record right behind the ones before.
-use Prim.Native.Nat.{◌+◌, ◌-◌, ◌<◌}
-use mathlib.Core.Path.{◌≡◌, ap, ◌∙◌}
-use native.Mathlib.Omega.{arith}
-use lib.ListN.{get_or}
-use Rattle.output.specs.Chained.{next_run}
+use Rattle.std.proofs.Common.{refl, ap, ◌∙◌, arith, length}
+use Rattle.rules.specs.Tables.{desks_of, run_pieces, run_froms, run_untils}
+use Rattle.laws.proofs.Columns.{get_or-run_pieces, get_or-run_froms, get_or-run_untils}
+use Rattle.records.proofs.PutLaws.{room_left, puts_as}
+use Rattle.output.specs.Chained.{code_of}
 use Rattle.output.proofs.AlongLaws.{Here, along_start, along_here, along_on, along_end, along_less}
-use Rattle.output.proofs.runs.put_desk_runs.Goals.{After-run-1, In-loop-run}
+use Rattle.output.proofs.runs.put_desk_runs.Goals.{In-Some}
 use Rattle.output.proofs.runs.put_desk_runs.Goals as goal
 
--- The chain begins at the desk's first run.
-begins : (c : After-run-1) → let a = c.args in get_or a.first.now c.place_of.result 0 ≡ next_run a.desks.now
-    a.pieces.now a.desk (a.count - 0) 0
-begins c =
-    let desk = c.place_of.ensures in
-    ap (λ x. get_or c.args.first.now x 0) desk.0
-    ∙ c.requires.log_fits.1.begins c.args.desk (omega (arith, desk.0, desk.1))
-
-pub loop-run-init : goal.loop-run-init
-loop-run-init c =
+pub loop-next-init : goal.loop-next-init
+loop-next-init c =
     let a = c.args in
-    along_start a.count a.desks.now a.pieces.now a.froms.now a.untils.now a.desk a.buffer.now
-    a.at _ (begins c)
+    along_start (length a.runs.now) (desks_of a.pieces.now) (run_pieces a.runs.now) (run_froms a.runs.now)
+    (run_untils a.runs.now) a.desk a.buffer.now _
+    (c.first-next.ensures ∙ c.requires.chained.begins a.desk c.ranges.desk.fits)
 
-here : (c : In-loop-run) → let a = c.args in let L = c.loop-run in Here a.count a.desks.now a.pieces.now a.froms.now
-    a.untils.now a.desk a.buffer.now a.at L.buffer L.next (L.run - 1)
-here c = along_here (c.loop-run.run - 1) c.loop-run.invariant (omega arith)
+-- The run that the chain has come to.
+here : (c : In-Some) → let a = c.args in Here (length a.runs.now) (desks_of a.pieces.now) (run_pieces a.runs.now)
+    (run_froms a.runs.now) (run_untils a.runs.now) a.desk a.buffer.now c.loop-next.buffer c.in-Some.k
+here c = along_here c.in-Some.k c.loop-next.invariant (ap code_of c.in-Some.is)
 
--- The run's place is within the log.
-within : (c : In-loop-run) → c.loop-run.run - 1 < 512
-within c = omega (arith, (here c).place, c.requires.log_fits.0.few)
+pub bounds-runs-k : goal.bounds-runs-k
+bounds-runs-k c = (here (goal.at.bounds-runs-k c).In-Some).place
 
--- The record's end is within the buffer, and so a number of the machine.
-behind : (c : In-loop-run) → c.loop-run.next + 16 < 18446744073709551616
-behind c = omega (arith, (here c).room, c.requires.desk_in_bounds)
+pub put-requires : goal.put-requires
+put-requires c =
+    let h = here (goal.at.put-requires c).In-Some in
+    room_left 16 h.logged (omega (arith, h.room, c.requires.room))
 
-pub offset_bounds-pieces-k : goal.offset_bounds-pieces-k
-offset_bounds-pieces-k c = omega (arith, within (goal.at.offset_bounds-pieces-k c).In-loop-run)
+pub next-next-requires : goal.next-next-requires
+next-next-requires c =
+    omega (arith, (here (goal.at.next-next-requires c).In-Some).place, c.requires.log_fits.few)
 
-pub bounds-pieces-k : goal.bounds-pieces-k
-bounds-pieces-k c = omega (arith, within (goal.at.bounds-pieces-k c).In-loop-run)
+pub loop-next-smaller : goal.loop-next-smaller
+loop-next-smaller c =
+    let turn = (goal.at.loop-next-smaller c).In-Some in
+    rw c.next-next.ensures
+    (along_less c.requires.chained (here turn) (code_of c.loop-next.next) (ap code_of c.in-Some.is))
 
-pub offset_bounds-froms-k : goal.offset_bounds-froms-k
-offset_bounds-froms-k c = omega (arith, within (goal.at.offset_bounds-froms-k c).In-loop-run)
-
-pub bounds-froms-k : goal.bounds-froms-k
-bounds-froms-k c = omega (arith, within (goal.at.bounds-froms-k c).In-loop-run)
-
-pub offset_bounds-untils-k : goal.offset_bounds-untils-k
-offset_bounds-untils-k c = omega (arith, within (goal.at.offset_bounds-untils-k c).In-loop-run)
-
-pub bounds-untils-k : goal.bounds-untils-k
-bounds-untils-k c = omega (arith, within (goal.at.bounds-untils-k c).In-loop-run)
-
-pub put_record-requires : goal.put_record-requires
-put_record-requires c =
-    let turn = (goal.at.put_record-requires c).In-loop-run in
-    omega (arith, (here turn).room, (here turn).logged.same, c.requires.desk_in_bounds)
-
-pub overflow_add-next : goal.overflow_add-next
-overflow_add-next c = omega (arith, behind (goal.at.overflow_add-next c).In-loop-run)
-
-pub offset_bounds-later-k : goal.offset_bounds-later-k
-offset_bounds-later-k c = omega (arith, within (goal.at.offset_bounds-later-k c).In-loop-run)
-
-pub bounds-later-k : goal.bounds-later-k
-bounds-later-k c = omega (arith, within (goal.at.bounds-later-k c).In-loop-run)
-
-pub loop-run-smaller : goal.loop-run-smaller
-loop-run-smaller c =
-    along_less c.requires.log_fits.1 (here (goal.at.loop-run-smaller c).In-loop-run) c.loop-run.run (omega arith)
-
-pub loop-run-preserved : goal.loop-run-preserved
-loop-run-preserved c =
-    along_on c.requires.log_fits.1 (here (goal.at.loop-run-preserved c).In-loop-run) _ c.put_record.ensures
+pub loop-next-preserved : goal.loop-next-preserved
+loop-next-preserved c =
+    let turn = (goal.at.loop-next-preserved c).In-Some in
+    let rs = c.args.runs.now in
+    let k = c.in-Some.k in
+    rw c.next-next.ensures
+    (along_on c.requires.chained (here turn)
+    (puts_as c.put.ensures (rw (get_or-run_pieces rs k, get_or-run_froms rs k, get_or-run_untils rs k) refl)))
 
 pub returns : goal.returns
-returns c = along_end c.loop-run.invariant (omega arith)
+returns c = along_end c.loop-next.invariant (ap code_of c.in_default.is)
+
+pub offset_bounds-runs-k : goal.offset_bounds-runs-k
+offset_bounds-runs-k c =
+    let h = here (goal.at.offset_bounds-runs-k c).In-Some in omega (arith, h.place, c.requires.log_fits.few)

@@ -1,11 +1,15 @@
 -- `put_desk_runs` meets its contract: along the desk's chain, each record right behind the ones before.
+use Rattle.std.proofs.Common.{length}
+use Rattle.rules.specs.Tables.{desks_of, run_pieces, run_froms, run_untils}
+use Rattle.output.specs.Chained.{code_of}
 use Rattle.output.proofs.ChainedLaws.{ahead}
 use Rattle.output.proofs.AlongLaws.{Along}
 use Rattle.output.proofs.runs.put_desk_runs.Given as goal
 
-abbrev pub invariant-loop-run : goal.invariant-loop-run
-invariant-loop-run l =
-    Along l.count l.desks l.pieces l.froms l.untils l.desk l.initial.buffer l.at l.buffer l.next l.run
+abbrev pub invariant-loop-next : goal.invariant-loop-next
+invariant-loop-next l =
+    Along (length l.runs) (desks_of l.pieces) (run_pieces l.runs) (run_froms l.runs) (run_untils l.runs) l.desk
+    l.initial.buffer l.buffer (code_of l.next)
 
-abbrev pub decreases-loop-run : goal.decreases-loop-run
-decreases-loop-run l = ahead l.count l.run
+abbrev pub decreases-loop-next : goal.decreases-loop-next
+decreases-loop-next l = ahead (length l.runs) (code_of l.next)
