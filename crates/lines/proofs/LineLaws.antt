@@ -1,78 +1,60 @@
 -- The fields of a line one behind the other: each has at most 35 bytes, and they and the newline are the line.
-use Prim.Native.Nat.{ℕ, ◌+◌, ◌*◌, ◌≤◌, ◌<◌}
+use Prim.Native.Nat.{ℕ, ◌+◌, ◌*◌, ◌≤◌}
 use mathlib.Core.List.{List, [], ◌∷◌, ◌++◌, append-nil}
-use mathlib.Core.Path.{◌≡◌, refl, ap, ◌∙◌}
+use mathlib.Core.Path.{◌≡◌, sym, ap, ◌∙◌}
 use native.Mathlib.Omega.{arith}
-use mir.Syntax.{w32}
-use mir.Val.{SFits, to_z, of_z}
-use mir.Facts.{to_z-of_z, to_z_pos}
-use Rattle.output.specs.Late.{Bounded, lateness_of}
-use Rattle.output.proofs.FigureLaws.{late_fits}
-use lib.IntN.{ℤ, pos, ◌-ℤ◌}
-use lib.ListN.{length, set, length-set, length-append}
+use Rattle.output.specs.Late.{lateness_of}
+use lib.IntN.{ℤ}
+use lib.ListN.{length, length-append}
 use Rattle.rules.specs.Words.{joined}
 use Rattle.rules.specs.Listing.{letters, line, field, signed_field, digits, signed_digits}
 use Prim.Native.String.{String}
 use Rattle.laws.proofs.Joined.{joined_append}
-use Rattle.texts.specs.Puts.{Puts, PutsField}
-use Rattle.lines.specs.Lines.{FieldFits, piece_text, run_text, total_text, refused_text}
-use Rattle.texts.proofs.TextLaws.{puts_same, puts_then, puts_byte, number_fits, signed_fits}
+use Rattle.records.specs.Puts.{Puts, Room}
+use Rattle.records.specs.declared.lent.Lent.{Lent}
+use Rattle.records.proofs.PutLaws.{nothing_put, puts_on, puts_as, room_left}
+use Rattle.texts.specs.Fields.{PutsField}
+use Rattle.texts.proofs.DigitLaws.{number_fits, signed_fits}
+use Rattle.lines.specs.Lines.{piece_text, run_text, total_text, refused_text}
 
 -- Some fields stand there, at most 35 bytes each.
-pub record Fields (b : List ℕ) (at : ℕ) (fs : List (List ℕ)) (mid : List ℕ) (next : ℕ) : Type 0 where
-  pub put : Puts b at (joined fs) mid next
-  pub same : length mid ≡ length b
-  pub near : next ≤ at + 35 * length fs
+pub record Fields (old : Lent) (fs : List (List ℕ)) (mid : Lent) : Type 0 where
+  pub put : Puts old (joined fs) mid
+  pub near : length (joined fs) ≤ 35 * length fs
 
-pub no_field : (b : List ℕ) (at : ℕ) → Fields b at [] b at
+pub no_field : (old : Lent) → Fields old [] old
 unfolding joined
-no_field b at = record { put = record { written = refl; past = omega arith }; same = refl; near = omega arith }
+no_field old = record { put = nothing_put old; near = omega arith }
 
 joined_one : (f : List ℕ) → joined (f ∷ []) ≡ f
 unfolding joined
 joined_one f = append-nil f
 
-module _ {b : List ℕ} {at : ℕ} {fs : List (List ℕ)} {mid : List ℕ} {next : ℕ} (F : Fields b at fs mid next) where
-  pub then_field : {f after : List ℕ} {end : ℕ} → PutsField mid next f after end
-      → Fields b at (fs ++ (f ∷ [])) after end
-  then_field {f} {after} {end} p = record {
-    put = rw (joined_append fs (f ∷ []), joined_one f) (puts_then F.put p.put);
-    same = puts_same p.put ∙ F.same;
-    near = omega (arith, p.put.past, p.few, F.near, length-append fs (f ∷ []));
-  }
+module _ {old mid : Lent} {fs : List (List ℕ)} (F : Fields old fs mid) where
+  pub then_field : {f : List ℕ} {new : Lent} → PutsField mid f new → Fields old (fs ++ (f ∷ [])) new
+  then_field {f} p =
+      let whole : joined (fs ++ (f ∷ [])) ≡ joined fs ++ f =
+      joined_append fs (f ∷ []) ∙ ap (λ l. joined fs ++ l) (joined_one f) in
+      record {
+        put = puts_as (puts_on F.put p.put) (sym whole);
+        near = omega (
+          arith,
+          ap (λ l. length l) whole,
+          length-append (joined fs) f,
+          p.few,
+          F.near,
+          length-append fs (f ∷ []),
+        );
+      }
 
-  -- The text that had room for one more field still has it.
-  pub field_fits : {w : List ℕ} → length w ≤ 14 → at + 35 * length fs + 35 ≤ length b → FieldFits w mid next
-  field_fits short enough = record { short = short; room = omega (arith, F.same, F.near) }
-
-  pub newline_fits : at + 35 * length fs + 1 ≤ length b → next < length mid
-  newline_fits enough = omega (arith, F.same, F.near)
+  -- The text that had room for so much more still has it.
+  pub still_room : (n : ℕ) → Room old (35 * length fs + n) → Room mid n
+  still_room n h = room_left n F.put (omega (arith, F.near, h))
 
   -- The newline ends the line.
-  pub then_newline : Puts b at (line fs) (set mid next 10) (next + 1)
+  pub then_newline : {new : Lent} → Puts mid (10 ∷ []) new → Puts old (line fs) new
   unfolding line
-  then_newline = puts_byte F.put 10
-
-  pub newline_same : length (set mid next 10) ≡ length b
-  newline_same = length-set mid next 10 ∙ F.same
-
--- A word and a number behind it.
-module _ (w : List ℕ) {b mid after : List ℕ} {at next end : ℕ} (short : length w ≤ 14) (p : Puts b at w mid next) where
-  pub number_field : (n : ℕ) → Puts mid next (digits n) after end → PutsField b at (w ++ digits n) after end
-  number_field n q = record { put = puts_then p q; few = omega (arith, length-append w (digits n), number_fits n) }
-
-  pub signed_field_lem : (z : ℤ) → Puts mid next (signed_digits z) after end → PutsField b at (w ++ signed_digits z) after end
-  signed_field_lem z q = record {
-    put = puts_then p q;
-    few = omega (arith, length-append w (signed_digits z), signed_fits z);
-  }
-
--- Finish less latest moment, as 32 bits have it.
-pub late_is : (f : ℕ) (l : ℤ) → SFits w32 l → Bounded f l
-    → to_z w32 (of_z w32 (to_z w32 f -ℤ to_z w32 (of_z w32 l))) ≡ lateness_of f l
-late_is f l fits h =
-    ap (λ x. to_z w32 (of_z w32 (x -ℤ to_z w32 (of_z w32 l)))) (to_z_pos w32 {n = f} (omega (arith, h.early)))
-    ∙ ap (λ x. to_z w32 (of_z w32 (pos f -ℤ x))) (to_z-of_z fits) ∙ to_z-of_z (late_fits f l h)
+  then_newline p = puts_on F.put p
 
 -- How long a line is at most: 35 bytes for each of its fields, and the newline.
 abbrev Short : List (List ℕ) → Type 0

@@ -1,6 +1,6 @@
 -- The lines of a listing over plain numbers, out of the tables of a finished plan: for each piece its desk, start,
 -- finish and latest moment; for each run of the log its piece, its first slot and one past its last.
-use Rattle.std.specs.Prelude.{ℕ, ◌+◌, ◌≤◌, ◌<◌, List, [], ◌∷◌, map, eqb, ℤ, pos, length, get_or}
+use Rattle.std.specs.Prelude.{ℕ, List, [], ◌∷◌, map, eqb, ℤ, pos, get_or}
 use Rattle.rules.specs.Words.{when, below, joined}
 use Rattle.rules.specs.Listing.{field, signed_field, line, run_line}
 use Rattle.steps.specs.Log.{logged_runs}
@@ -51,14 +51,3 @@ run_line_in desks pieces froms untils d k =
 unfoldable pub run_lines_in : ℕ → ℕ → List ℕ → List ℕ → List ℕ → List ℕ → List ℕ
 unfolding joined desk_lines_in below
 run_lines_in n count desks pieces froms untils = joined (map (desk_lines_in count desks pieces froms untils) (below n))
-
--- Room for a field: a word of at most 14 bytes, and a number of at most 20 digits with its sign.
-pub record FieldFits (word text : List ℕ) (at : ℕ) : Type 0 where
-  pub short : length word ≤ 14
-  pub room : at + 35 ≤ length text
-
--- Room for the line of the run at place k of the log, whose piece is one of the tables'.
-pub record RunFits (k : ℕ) (pieces : List ℕ) (at : ℕ) (text : List ℕ) : Type 0 where
-  pub place : k < 512
-  pub known : get_or pieces k 0 < 256
-  pub room : at + 141 ≤ length text

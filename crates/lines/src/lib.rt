@@ -1,99 +1,62 @@
 // The lines of a listing, field by field. A field has at most 35 bytes: its word at most 14, its number at most 21.
 #![tactic(auto)]
 
-ghost use Rattle.std.specs.Prelude.{◌++◌, ◌+◌, ◌≤◌, length};
-ghost use Rattle.rules.specs.Listing.{digits, signed_digits};
+ghost use Rattle.records.specs.Puts.{Puts, Room};
+ghost use Rattle.rules.specs.Told.{number_of};
 ghost use Rattle.output.specs.Late.{Bounded};
-ghost use Rattle.texts.specs.Puts.{Puts, PutsField};
-ghost use Rattle.lines.specs.Lines.{FieldFits, piece_text, run_text, total_text, refused_text};
+ghost use Rattle.lines.specs.Lines.{piece_text, run_text, total_text, refused_text};
 
-use texts::{put_bytes, put_number, put_signed};
+use numbers::lateness::lateness;
+use records::lent::Lent;
+use rules::fault::Refusal;
+use rules::{PlanFigures, Run, Span};
+use texts::put_field;
 
-// A word, and its number behind it.
-fn put_field(text: &mut [u8], at: usize, word: &[u8], n: u64) -> usize
-    requires { FieldFits word.now text.old at }
-    ensures { PutsField text.old at (word.now ++ digits n) text.new result }
+/// The line of a piece. Lateness is finish less latest moment.
+pub fn put_piece_line(text: &mut Lent, piece: usize, desk: u8, span: Span, latest: i32)
+    requires room { Room text.old 211 }
+    requires bounded { Bounded span.finish latest }
+    ensures { Puts text.old (piece_text piece desk span.start span.finish latest) text.new }
 {
-    let next = put_bytes(text, at, word);
-    put_number(text, next, n)
+    put_field(text, b"piece ", piece);
+    put_field(text, b" desk ", desk);
+    put_field(text, b" start ", span.start);
+    put_field(text, b" finish ", span.finish);
+    put_field(text, b" latest ", latest);
+    put_field(text, b" late ", lateness(span.finish, latest));
+    text.put(b"\n");
 }
 
-fn put_signed_field(text: &mut [u8], at: usize, word: &[u8], z: i32) -> usize
-    requires { FieldFits word.now text.old at }
-    ensures { PutsField text.old at (word.now ++ signed_digits z) text.new result }
+/// The line of a run.
+pub fn put_run_line(text: &mut Lent, desk: u8, run: Run)
+    requires { Room text.old 141 }
+    ensures { Puts text.old (run_text desk run.piece run.from run.until) text.new }
 {
-    let next = put_bytes(text, at, word);
-    put_signed(text, next, z)
+    put_field(text, b"run desk ", desk);
+    put_field(text, b" piece ", run.piece);
+    put_field(text, b" from ", run.from);
+    put_field(text, b" until ", run.until);
+    text.put(b"\n");
 }
 
-// Lateness is finish less latest moment.
-pub fn put_piece_line(
-    text: &mut [u8],
-    at: usize,
-    piece: u64,
-    desk: u8,
-    start: u32,
-    finish: u32,
-    latest: i32,
-) -> usize
-    requires { (at + 211 ≤ length text.old) × Bounded finish latest }
-    ensures { Puts text.old at (piece_text piece desk start finish latest) text.new result }
+/// The total.
+pub fn put_total_line(text: &mut Lent, figures: PlanFigures)
+    requires { Room text.old 141 }
+    ensures { Puts text.old (total_text figures.pieces figures.runs figures.end figures.worst) text.new }
 {
-    let desk_at = put_field(text, at, b"piece ", piece);
-    let start_at = put_field(text, desk_at, b" desk ", desk as u64);
-    let finish_at = put_field(text, start_at, b" start ", start as u64);
-    let latest_at = put_field(text, finish_at, b" finish ", finish as u64);
-    let late_at = put_signed_field(text, latest_at, b" latest ", latest);
-    let late = finish as i32 - latest;
-    let end = put_signed_field(text, late_at, b" late ", late);
-    text[end] = b'\n';
-    end + 1
+    put_field(text, b"total pieces ", figures.pieces);
+    put_field(text, b" runs ", figures.runs);
+    put_field(text, b" end ", figures.end);
+    put_field(text, b" worst ", figures.worst);
+    text.put(b"\n");
 }
 
-pub fn put_run_line(
-    text: &mut [u8],
-    at: usize,
-    desk: u8,
-    piece: u16,
-    from: u32,
-    until: u32,
-) -> usize
-    requires { at + 141 ≤ length text.old }
-    ensures { Puts text.old at (run_text desk piece from until) text.new result }
+/// The one line of a refused file.
+pub fn put_refused_line(text: &mut Lent, refusal: Refusal)
+    requires { Room text.old 71 }
+    ensures { Puts text.old (refused_text (number_of refusal.fault) refusal.place) text.new }
 {
-    let piece_at = put_field(text, at, b"run desk ", desk as u64);
-    let from_at = put_field(text, piece_at, b" piece ", piece as u64);
-    let until_at = put_field(text, from_at, b" from ", from as u64);
-    let end = put_field(text, until_at, b" until ", until as u64);
-    text[end] = b'\n';
-    end + 1
-}
-
-pub fn put_total_line(
-    text: &mut [u8],
-    at: usize,
-    pieces: u64,
-    runs: u64,
-    end: u32,
-    worst: i32,
-) -> usize
-    requires { at + 141 ≤ length text.old }
-    ensures { Puts text.old at (total_text pieces runs end worst) text.new result }
-{
-    let runs_at = put_field(text, at, b"total pieces ", pieces);
-    let end_at = put_field(text, runs_at, b" runs ", runs);
-    let worst_at = put_field(text, end_at, b" end ", end as u64);
-    let last = put_signed_field(text, worst_at, b" worst ", worst);
-    text[last] = b'\n';
-    last + 1
-}
-
-pub fn put_refused_line(text: &mut [u8], at: usize, number: u64, place: u64) -> usize
-    requires { at + 71 ≤ length text.old }
-    ensures { Puts text.old at (refused_text number place) text.new result }
-{
-    let place_at = put_field(text, at, b"refused ", number);
-    let end = put_field(text, place_at, b" at ", place);
-    text[end] = b'\n';
-    end + 1
+    put_field(text, b"refused ", u8::from(refusal.fault));
+    put_field(text, b" at ", refusal.place);
+    text.put(b"\n");
 }

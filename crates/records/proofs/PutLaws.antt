@@ -20,5 +20,8 @@ puts_on {a} {b} {c} {xs} {ys} p q = record {
 pub puts_as : {a b : Lent} {xs ys : List ℕ} → Puts a xs b → xs ≡ ys → Puts a ys b
 puts_as {a} {b} p e = rw e at p
 
+pub puts_sized : {a b : Lent} {xs : List ℕ} → Puts a xs b → length b.bytes.now ≡ length a.bytes.now
+puts_sized {a} {b} {xs} p = ap (λ l. length l) p.written ∙ length-sets a.bytes.now a.at xs
+
 pub room_left : {a b : Lent} {xs : List ℕ} (n : ℕ) → Puts a xs b → Room a (length xs + n) → Room b n
-room_left {a} {b} {xs} n p h = omega (arith, p.past, h, ap (λ l. length l) p.written ∙ length-sets a.bytes.now a.at xs)
+room_left {a} {b} {xs} n p h = omega (arith, p.past, h, puts_sized p)

@@ -1,2 +1,3 @@
 -- Laws of the digits of a number.
+pub mod DigitLaws
 pub mod TextLaws

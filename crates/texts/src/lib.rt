@@ -23,7 +23,8 @@ pub fn put_number<I: Integer>(text: &mut Lent, n: I)
 pub fn put_field<I: Integer>(text: &mut Lent, word: &[u8], n: I)
     requires fits { FieldFits word.now text.old }
     requires short { I.MAX_STR_LEN ≤ 21 }
-    ensures { PutsField text.old (word.now ++ I.text n) text.new }
+    ensures put { PutsField text.old (word.now ++ I.text n) text.new }
+    ensures fits { length (I.text n) ≤ I.MAX_STR_LEN }
 {
     text.put(word);
     put_number(text, n);
