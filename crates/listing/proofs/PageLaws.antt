@@ -14,10 +14,11 @@ use Rattle.rules.specs.Listing.{run_line}
 use Rattle.laws.proofs.Words.{by_test, when_true, when_false}
 use Rattle.laws.proofs.Joined.{joined_more, kept_more, not_kept_more, map_twice}
 use Rattle.steps.specs.Log.{run_at, logged_runs}
-use Rattle.texts.specs.Puts.{Puts}
-use Rattle.lines.specs.Lines.{run_text, piece_line_in, piece_lines_in, run_line_in, desk_lines_in, run_lines_in}
+use Rattle.records.specs.Puts.{Puts}
+use Rattle.records.specs.declared.lent.Lent.{Lent}
+use Rattle.records.proofs.PutLaws.{nothing_put, puts_on, puts_as}
+use Rattle.lines.specs.Lines.{piece_text, run_text, piece_line_in, piece_lines_in, run_line_in, desk_lines_in, run_lines_in}
 use Rattle.lines.proofs.LineLaws.{piece_most}
-use Rattle.texts.proofs.TextLaws.{puts_then, puts_none}
 
 -- Pages that grow line by line.
 module _ (page piece : ℕ → List ℕ) (more : (k : ℕ) → page (suc k) ≡ page k ++ piece k) where
@@ -40,9 +41,8 @@ module _ (page piece : ℕ → List ℕ) (more : (k : ℕ) → page (suc k) ≡ 
       rw (more n, q) (omega (arith, h n, length-append (page n) (piece n)))
 
   -- One line more, right behind.
-  pub line_more : (b : List ℕ) (at k : ℕ) (mid : List ℕ) (next : ℕ) (after : List ℕ) (end : ℕ)
-      → Puts b at (page k) mid next → Puts mid next (piece k) after end → Puts b at (page (k + 1)) after end
-  line_more b at k mid next after end p q = rw (add-one k, more k) (puts_then p q)
+  pub line_more : {old mid new : Lent} (k : ℕ) → Puts old (page k) mid → Puts mid (piece k) new → Puts old (page (k + 1)) new
+  line_more k p q = rw (add-one k) (puts_as (puts_on p q) (sym (more k)))
 
 module _ (desks starts finishes : List ℕ) (latests : List ℤ) where
   pub pieces_more : (k : ℕ) → piece_lines_in (suc k) desks starts finishes latests
@@ -50,9 +50,14 @@ module _ (desks starts finishes : List ℕ) (latests : List ℤ) where
   unfolding piece_lines_in
   pieces_more k = joined_more (piece_line_in desks starts finishes latests) k
 
-  pub no_piece_yet : (b : List ℕ) (at : ℕ) → Puts b at (piece_lines_in 0 desks starts finishes latests) b at
+  pub piece_here : (i : ℕ) → piece_text i (get_or desks i 0) (get_or starts i 0) (get_or finishes i 0) (get_or latests i (pos 0))
+      ≡ piece_line_in desks starts finishes latests i
+  unfolding piece_line_in
+  piece_here i = refl
+
+  pub no_piece_yet : (old : Lent) → Puts old (piece_lines_in 0 desks starts finishes latests) old
   unfolding piece_lines_in
-  no_piece_yet b at = puts_none b at
+  no_piece_yet old = nothing_put old
 
   pub pieces_most : (n : ℕ) → length (piece_lines_in n desks starts finishes latests) ≤ 211 * n
   unfolding piece_lines_in piece_line_in
@@ -86,26 +91,26 @@ module _ (desks pieces froms untils : List ℕ) where
   unfolding run_lines_in
   desks_more count d = joined_more (desk_lines_in count desks pieces froms untils) d
 
-  pub no_run_yet : (d : ℕ) (b : List ℕ) (at : ℕ) → Puts b at (desk_lines_in 0 desks pieces froms untils d) b at
+  pub no_run_yet : (d : ℕ) (old : Lent) → Puts old (desk_lines_in 0 desks pieces froms untils d) old
   unfolding desk_lines_in logged_runs keep below
-  no_run_yet d b at = puts_none b at
+  no_run_yet d old = nothing_put old
 
-  pub no_desk_yet : (count : ℕ) (b : List ℕ) (at : ℕ) → Puts b at (run_lines_in 0 count desks pieces froms untils) b at
+  pub no_desk_yet : (count : ℕ) (old : Lent) → Puts old (run_lines_in 0 count desks pieces froms untils) old
   unfolding run_lines_in
-  no_desk_yet count b at = puts_none b at
+  no_desk_yet count old = nothing_put old
 
   -- The run at place k is the desk's, or it is not.
-  module _ (d k : ℕ) {b : List ℕ} {at : ℕ} where
-    pub own_line : {after : List ℕ} {end : ℕ} → eqb (get_or desks (get_or pieces k 0) 0) d ≡ true
-        → Puts b at (run_text d (get_or pieces k 0) (get_or froms k 0) (get_or untils k 0)) after end
-        → Puts b at (run_line_in desks pieces froms untils d k) after end
+  module _ (d k : ℕ) {old : Lent} where
+    pub own_line : {new : Lent} → eqb (get_or desks (get_or pieces k 0) 0) d ≡ true
+        → Puts old (run_text d (get_or pieces k 0) (get_or froms k 0) (get_or untils k 0)) new
+        → Puts old (run_line_in desks pieces froms untils d k) new
     unfolding run_line_in
     own_line e p = rw (when_true _ (run_text d (get_or pieces k 0) (get_or froms k 0) (get_or untils k 0)) [] e) p
 
     pub no_line : eqb (get_or desks (get_or pieces k 0) 0) d ≡ false
-        → Puts b at (run_line_in desks pieces froms untils d k) b at
+        → Puts old (run_line_in desks pieces froms untils d k) old
     unfolding run_line_in
-    no_line e = rw (when_false _ (run_text d (get_or pieces k 0) (get_or froms k 0) (get_or untils k 0)) [] e) (puts_none b at)
+    no_line e = rw (when_false _ (run_text d (get_or pieces k 0) (get_or froms k 0) (get_or untils k 0)) [] e) (nothing_put old)
 
   -- There is room for one desk's lines.
   pub desk_room : (count d n : ℕ) → d < n

@@ -1,35 +1,32 @@
 -- `put_run_lines` meets its contract: desk by desk, each desk's lines right behind those before.
-use native.Mathlib.Omega.{arith}
+use Rattle.std.proofs.Common.{arith, length}
+use Rattle.rules.specs.Tables.{desks_of, run_pieces, run_froms, run_untils}
+use Rattle.records.proofs.PutLaws.{room_left}
 use Rattle.lines.specs.Lines.{desk_lines_in, run_lines_in}
-use Rattle.texts.proofs.TextLaws.{puts_same}
 use Rattle.listing.proofs.PageLaws.{no_desk_yet, desks_more, line_more, desk_room}
 use Rattle.listing.proofs.pages.put_run_lines.Goals as goal
 
 pub loop-desk-init : goal.loop-desk-init
 loop-desk-init c =
-    let a = c.args in (
-      omega arith,
-      no_desk_yet a.desks.now a.pieces.now a.froms.now a.untils.now a.count
-          a.text.now a.at,
-    )
-
-pub put_desk_lines-next-requires : goal.put_desk_lines-next-requires
-put_desk_lines-next-requires c =
     let a = c.args in
-    let L = c.loop-desk in
-    let p = c.requires in
-    let r = desk_room a.desks.now a.pieces.now a.froms.now a.untils.now a.count L.desk 32
-    (omega arith) in
-    (p.0, omega (arith, r, L.invariant.1.past, puts_same L.invariant.1, p.1))
+    no_desk_yet (desks_of a.pieces.now) (run_pieces a.runs.now) (run_froms a.runs.now) (run_untils a.runs.now)
+    (length a.runs.now) a.text.now
+
+pub put_desk_lines-requires-clause-room : goal.put_desk_lines-requires-clause-room
+put_desk_lines-requires-clause-room c =
+    let a = c.args in
+    let own = desk_room (desks_of a.pieces.now) (run_pieces a.runs.now) (run_froms a.runs.now) (run_untils a.runs.now)
+    (length a.runs.now) c.loop-desk.desk 32 c.loop-desk-test.true in
+    room_left _ c.loop-desk.invariant (omega (arith, own, c.requires.room))
 
 pub loop-desk-preserved : goal.loop-desk-preserved
 loop-desk-preserved c =
     let a = c.args in
-    let L = c.loop-desk in (
-      omega arith,
-      line_more (λ d. run_lines_in d a.count a.desks.now a.pieces.now a.froms.now a.untils.now)
-          (desk_lines_in a.count a.desks.now a.pieces.now a.froms.now a.untils.now)
-          (desks_more a.desks.now a.pieces.now a.froms.now a.untils.now a.count)
-          a.text.now a.at L.desk L.text L.next _ _ L.invariant.1
-          c.put_desk_lines-next.ensures,
-    )
+    line_more
+    (λ d. run_lines_in d (length a.runs.now) (desks_of a.pieces.now) (run_pieces a.runs.now) (run_froms a.runs.now)
+    (run_untils a.runs.now))
+    (desk_lines_in (length a.runs.now) (desks_of a.pieces.now) (run_pieces a.runs.now) (run_froms a.runs.now)
+    (run_untils a.runs.now))
+    (desks_more (desks_of a.pieces.now) (run_pieces a.runs.now) (run_froms a.runs.now) (run_untils a.runs.now)
+    (length a.runs.now))
+    c.loop-desk.desk c.loop-desk.invariant c.put_desk_lines.ensures
