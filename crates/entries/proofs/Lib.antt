@@ -1,4 +1,2 @@
--- The laws of keys in order and of entries put by them.
-pub mod Sliding
-pub mod Ranking
-pub mod Putting
+-- An entry in its place among others in order.
+pub mod InPlace

@@ -1,3 +1,2 @@
--- The words of a lent list of entries: what it holds, and its order, as a list and as plain numbers.
+-- The words of a lent slice of entries.
 pub mod Lent
-pub mod Keys

@@ -1,7 +1,5 @@
-// One desk's entries in a list that the calling part lends: thin functions over the list, the order of entries as plain
-// numbers, and the list in order.
+// One desk's entries in a slice that the calling part lends: thin functions over it, and the slice put in order.
 #![tactic(auto)]
 
-pub mod keys;
 pub mod list;
 pub mod sorting;
