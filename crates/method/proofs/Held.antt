@@ -12,7 +12,8 @@ use lib.Dec.{leb, ltb, eqb}
 use Rattle.rules.specs.Words.{when}
 use Rattle.laws.proofs.Words.{by_test, and_true, and_false, when_true, when_false}
 use Rattle.theory.proofs.Cases.{by_le}
-use Rattle.method.specs.Board.{Stretch, stretch, touching, joined, give, holder}
+use Rattle.rules.specs.declared.Run.{Run as Stretch}
+use Rattle.method.specs.Board.{stretch, touching, joined, give, holder}
 
 -- Stretch q is over when r begins, and is another piece's if they touch.
 abbrev pub Clear : Stretch → Stretch → Type 0

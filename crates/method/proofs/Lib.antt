@@ -6,7 +6,7 @@ pub mod Sets
 pub mod Parts
 pub mod Solved
 pub mod SameLinks
--- its runs, by slot and off the tables
+-- its runs, by slot and as the code keeps them
 pub mod RunsLaid
 pub mod Turned
 -- one desk of a job: the block method agrees with the plan; the worst lateness over the runs

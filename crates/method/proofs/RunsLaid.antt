@@ -16,7 +16,8 @@ use Rattle.laws.proofs.Slots.{none_or_some, some_inj}
 use Rattle.theory.proofs.Cases.{by_eq}
 use Rattle.theory.proofs.Plans.{Plan}
 use Rattle.theory.proofs.Turns.{turn_of, turns_of, runs_over, runs_rest, runs-longer, runs_new}
-use Rattle.method.specs.Board.{Stretch, run_of, holder}
+use Rattle.rules.specs.declared.Run.{Run as Stretch}
+use Rattle.method.specs.Board.{run_of, holder}
 use Rattle.method.proofs.Held.{Clear, between, in_between, before_between, after_between}
 
 -- Stretches in the order of time: not empty, rising, and of two that touch each another piece's.

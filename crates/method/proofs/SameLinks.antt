@@ -15,7 +15,8 @@ use Rattle.rules.specs.Blocks.{Block, block_of, gathered, block_end, gather, cut
 use Rattle.laws.proofs.Words.{by_test, keep_same}
 use Rattle.theory.proofs.Lists.{◌∈◌, by-mem}
 use Rattle.theory.proofs.SetAside.{mem_others}
-use Rattle.method.specs.Board.{Stretch, give}
+use Rattle.rules.specs.declared.Run.{Run as Stretch}
+use Rattle.method.specs.Board.{give}
 use Rattle.method.specs.Method.{around, solved}
 
 one_same : (p q : Entry → Bool) (es : List Entry) → ((e : Entry) → e ∈ es → p e ≡ q e) → one_of p es ≡ one_of q es

@@ -22,7 +22,8 @@ use Rattle.laws.proofs.Order.{number}
 use Rattle.theory.proofs.OneBlock.{lasting}
 use Rattle.theory.proofs.SetAside.{LinksAhead, set_aside_lem, others_shorter, mem_others}
 use Rattle.theory.proofs.BlockShape.{BlocksRise, count, cut-rises, cut_count}
-use Rattle.method.specs.Board.{Stretch, give, holder}
+use Rattle.rules.specs.declared.Run.{Run as Stretch}
+use Rattle.method.specs.Board.{give, holder}
 use Rattle.method.specs.Method.{around, solved}
 use Rattle.method.proofs.Held.{Tidy, Ends, give_tidy, give-holder, between, in_between, before_between, after_between}
 use Rattle.method.proofs.Held.{shut_between}

@@ -1,18 +1,18 @@
 -- The board in the order of time: the last stretch first becomes the first stretch first, and nothing else changes. So the
--- runs of a tidy board are read off its tables. Assumes nothing.
-use Prim.Native.Nat.{ℕ, zero, suc, ◌+◌, ◌≤◌, ◌<◌}
+-- runs of a tidy board are those that the code keeps. Assumes nothing.
+use Prim.Native.Nat.{ℕ, zero, suc, ◌≤◌, ◌<◌}
 use mathlib.Core.Bool.{Bool, true}
-use mathlib.Core.List.{List, [], ◌∷◌, map}
+use mathlib.Core.List.{List, [], ◌∷◌, ◌++◌, map, reverse, append_assoc, append-nil, reverse-append, reverse-reverse}
 use mathlib.Core.Option.{none, some}
 use mathlib.Core.Path.{◌≡◌, refl, sym, ap, ◌∙◌}
 use native.Mathlib.Omega.{arith}
-use Rattle.rules.specs.Words.{when, or_else, row, below}
+use Rattle.rules.specs.Words.{when, or_else}
 use Rattle.rules.specs.Runs.{runs_from}
 use Rattle.laws.proofs.Words.{by_test, when_true, when_false}
-use Rattle.laws.proofs.Joined.{map_twice}
 use Rattle.theory.proofs.Plans.{Plan}
 use Rattle.theory.proofs.Turns.{turns_of}
-use Rattle.method.specs.Board.{Stretch, stretch_at, board_in, run_of, runs_in, holder}
+use Rattle.rules.specs.declared.Run.{Run as Stretch}
+use Rattle.method.specs.Board.{board_of, run_of, holder}
 use Rattle.method.proofs.Held.{Behind, Tidy, Ends, between, in_between, after_between, between_facts}
 use Rattle.method.proofs.RunsLaid.{Before, Rises, Over, runs_laid}
 use Rattle.method.proofs.Solved.{or_else_rest}
@@ -88,37 +88,30 @@ module _ (opens : ℕ → Bool) where
                 (in_between opens r.from r.until t (omega (arith, z.0, e)) (omega (arith, e)) (always t))),
           )
 
--- A board out of its tables, turned.
-turned_tables : (pieces froms untils : List ℕ) (k n : ℕ)
-    → turned (board_in k pieces froms untils) (map (stretch_at pieces froms untils) (row k n))
-    ≡ map (stretch_at pieces froms untils) (row 0 (k + n))
-unfolding turned board_in row
-turned_tables pieces froms untils zero n = let q : 0 + n ≡ n = omega arith in rw q
-turned_tables pieces froms untils (suc k) n =
-    let q : k + suc n ≡ suc k + n = omega arith in
-    turned_tables pieces froms untils k (suc n) ∙ ap (λ (m : ℕ). map (stretch_at pieces froms untils) (row 0 m)) q
+-- A board turned twice.
+turned_is : (b rs : List Stretch) → turned b rs ≡ reverse b ++ rs
+unfolding turned
+turned_is [] rs = refl
+turned_is (r ∷ b) rs =
+    turned_is b (r ∷ rs)
+    ∙ sym (ap (λ (l : List Stretch). l ++ rs) (reverse-append (r ∷ []) b) ∙ append_assoc (reverse b) (r ∷ []) rs)
 
-turned_board : (pieces froms untils : List ℕ) (k : ℕ)
-    → map run_of (turned (board_in k pieces froms untils) []) ≡ runs_in k pieces froms untils
-unfolding runs_in below row
-turned_board pieces froms untils k =
-    let q : k + 0 ≡ k = omega arith in
-    ap (map run_of) (turned_tables pieces froms untils k 0 ∙ ap (λ (m : ℕ). map (stretch_at pieces froms untils) (row 0 m)) q)
-    ∙ map_twice (stretch_at pieces froms untils) run_of (row 0 k)
+turned_board : (runs : List Stretch) → turned (board_of runs) [] ≡ runs
+turned_board runs = turned_is (reverse runs) [] ∙ append-nil (reverse (reverse runs)) ∙ reverse-reverse runs
 
 -- THE RUNS OF A TIDY BOARD
-pub board_runs : (opens : ℕ → Bool) → ((t : ℕ) → opens t ≡ true) → (w : Plan) (h k : ℕ) (pieces froms untils : List ℕ)
-    → Tidy (board_in k pieces froms untils)
-    → ((t : ℕ) → holder opens (board_in k pieces froms untils) t ≡ w t)
+pub board_runs : (opens : ℕ → Bool) → ((t : ℕ) → opens t ≡ true) → (w : Plan) (h : ℕ) (runs : List Stretch)
+    → Tidy (board_of runs)
+    → ((t : ℕ) → holder opens (board_of runs) t ≡ w t)
     → ((t i : ℕ) → w t ≡ some i → t < h)
-    → runs_from none (turns_of opens w h) ≡ runs_in k pieces froms untils
+    → runs_from none (turns_of opens w h) ≡ map run_of runs
 unfolding holder
-board_runs opens always w h k pieces froms untils z same short =
-    let b : List Stretch = board_in k pieces froms untils in
+board_runs opens always w h runs z same short =
+    let b : List Stretch = board_of runs in
     runs_laid opens always w h (turned b []) (turned_rises b [] z tt (joint_none b))
     (turned_over h b [] z (ends_by opens h b always z (λ t i e. short t i (sym (same t) ∙ e))) tt)
     (λ t. sym (turned_holder opens b [] z t ∙ or_else_rest (holder opens b t) ∙ same t))
-    ∙ turned_board pieces froms untils k
+    ∙ ap (map run_of) (turned_board runs)
   where
     joint_none : (b : List Stretch) → Joint b []
     joint_none [] = tt

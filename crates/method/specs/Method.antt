@@ -3,7 +3,8 @@
 use Rattle.std.specs.Prelude.{ℕ, zero, suc, Bool, List, [], ◌∷◌}
 use Rattle.std.proofs.Math.Option.{Option, none, some}
 use Rattle.rules.specs.Blocks.{Block, block_end, cut_in_order, set_aside, others}
-use Rattle.method.specs.Board.{Stretch, give}
+use Rattle.rules.specs.declared.Run.{Run as Stretch}
+use Rattle.method.specs.Board.{give}
 
 -- Blocks by time from moment t on, each solved; the slots before, between and behind them, up to `end`, are for `who`.
 unfoldable pub around : (ℕ → ℕ → ℕ) → (Block → List Stretch → List Stretch) → Option ℕ → ℕ → ℕ → List Block
