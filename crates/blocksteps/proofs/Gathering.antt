@@ -1,23 +1,15 @@
 -- A block while it is gathered, piece by piece: what is left to gather gives the blocks of the whole set. Assumes
 -- nothing.
-use Prim.Native.Nat.{ℕ, suc, ◌+◌, ◌≤◌, ◌<◌}
-use mathlib.Core.List.{List, [], ◌∷◌, ◌++◌, map}
-use mathlib.Core.Path.{◌≡◌, refl, sym, ap, ◌∙◌}
-use native.Mathlib.Numerals.{add-one}
-use native.Mathlib.Omega.{arith}
+use Rattle.std.proofs.Common.{ℕ, ◌+◌, ◌≤◌, ◌<◌, List, [], ◌∷◌, ◌≡◌, ◌∙◌, refl, sym, ap, map, length, take, drop, leb, arith}
+use Rattle.std.proofs.lemmas.List.{map-append, take_more, drop_more, drop_all}
 use borrow.Author.Tests.{le-leb, lt-leb}
-use lib.Dec.{leb}
-use lib.ListN.{length, get_or, take, drop}
-use lib.Seq.{take-suc, drop-cons, drop-length}
 use Rattle.rules.specs.Entries.{Entry}
 use Rattle.rules.specs.Blocks.{Block, gathered, block_end, gather, cut_in_order}
 use Rattle.laws.proofs.Words.{when_true, when_false}
+use Rattle.entries.specs.declared.list.Entry.{Entry as Struct}
+use Rattle.entries.specs.Lent.{meant, no_entry, entry_at}
 use Rattle.method.specs.Hours.{desk_end}
 use Rattle.blocksteps.specs.Listed.{Extends}
-
-pub map_snoc : {A B : Type 0} (f : A → B) (xs : List A) (x : A) → map f (xs ++ (x ∷ [])) ≡ map f xs ++ (f x ∷ [])
-map_snoc f [] x = refl
-map_snoc f (y ∷ xs) x = ap (λ l. f y ∷ l) (map_snoc f xs x)
 
 -- The next entry is gathered, or begins a block of its own.
 joins : (B : Block) (e : Entry) (es : List Entry) → e.ready < block_end desk_end B
@@ -34,58 +26,57 @@ ended : (B : Block) (es : List Entry) → es ≡ [] → gather desk_end B es ≡
 unfolding gather cut_in_order
 ended B es e = rw e
 
-module _ (entry : ℕ → Entry) (ids : List ℕ) where
+module _ (es : List Struct) where
   -- The block of the first k, with their work.
   abbrev pub so_far : ℕ → ℕ → Block
-  so_far work k = record { from = (entry (get_or ids 0 0)).ready; work = work; members = map entry (take k ids) }
+  so_far work k = record { from = (entry_at es 0).ready; work = work; members = map meant (take k es) }
 
   pub record Gathering (work k : ℕ) : Type 0 where
     pub some_one : 1 ≤ k
-    pub within : k ≤ length ids
-    pub rest : gather desk_end (so_far work k) (map entry (drop k ids)) ≡ cut_in_order desk_end (map entry ids)
+    pub within : k ≤ length es
+    pub rest : gather desk_end (so_far work k) (map meant (drop k es)) ≡ cut_in_order desk_end (map meant es)
 
-  pub gathering_one : 0 < length ids → Gathering (entry (get_or ids 0 0)).duration 1
+  pub gathering_one : 0 < length es → Gathering (entry_at es 0).duration 1
   unfolding cut_in_order
-  gathering_one h = record { some_one = omega arith; within = omega arith; rest = go ids h }
+  gathering_one h = record { some_one = omega arith; within = omega arith; rest = go es h }
     where
-      go : (l : List ℕ) → 0 < length l
+      go : (l : List Struct) → 0 < length l
           → gather desk_end
           (record {
-            from = (entry (get_or l 0 0)).ready;
-            work = (entry (get_or l 0 0)).duration;
-            members = map entry
-                (take 1 l);
+            from = (entry_at l 0).ready;
+            work = (entry_at l 0).duration;
+            members = map meant (take 1 l);
           })
-          (map entry (drop 1 l)) ≡ cut_in_order desk_end (map entry l)
+          (map meant (drop 1 l)) ≡ cut_in_order desk_end (map meant l)
       go [] h = absurd (omega arith)
       go (x ∷ xs) h = refl
 
   module _ (work k : ℕ) (g : Gathering work k) where
     -- The next one.
     abbrev next : Entry
-    next = entry (get_or ids k 0)
+    next = meant (entry_at es k)
 
-    here : k < length ids → map entry (drop k ids) ≡ next ∷ map entry (drop (suc k) ids)
-    here h = ap (map entry) (drop-cons ids k 0 h)
+    here : k < length es → map meant (drop k es) ≡ next ∷ map meant (drop (k + 1) es)
+    here h = ap (map meant) (drop_more es k no_entry h)
 
-    pub gathering_more : k < length ids → next.ready < desk_end (entry (get_or ids 0 0)).ready work
+    pub gathering_more : k < length es → next.ready < desk_end (entry_at es 0).ready work
         → Gathering (work + next.duration) (k + 1)
     unfolding block_end
-    gathering_more h soon = rw add-one (record {
+    gathering_more h soon = record {
       some_one = omega arith;
-      within = h;
+      within = omega arith;
       rest =
           ap (λ (ms : List Entry).
-          gather desk_end (record { from = (entry (get_or ids 0 0)).ready; work = work + next.duration; members = ms })
-          (map entry (drop (suc k) ids)))
-          (ap (map entry) (take-suc ids k 0 h) ∙ map_snoc entry (take k ids) (get_or ids k 0))
-          ∙ sym (joins (so_far work k) next (map entry (drop (suc k) ids)) soon)
+          gather desk_end (record { from = (entry_at es 0).ready; work = work + next.duration; members = ms })
+          (map meant (drop (k + 1) es)))
+          (ap (map meant) (take_more es k no_entry h) ∙ map-append meant (take k es) (entry_at es k ∷ []))
+          ∙ sym (joins (so_far work k) next (map meant (drop (k + 1) es)) soon)
           ∙ ap (gather desk_end (so_far work k)) (sym (here h))
           ∙ g.rest;
-    })
+    }
 
-    pub gathering_stop : (over : ℕ) → over ≡ desk_end (entry (get_or ids 0 0)).ready work → k < length ids
-        → over ≤ next.ready → Extends entry ids k over
+    pub gathering_stop : (over : ℕ) → over ≡ desk_end (entry_at es 0).ready work → k < length es
+        → over ≤ next.ready → Extends es k over
     unfolding block_end
     gathering_stop over e h late = record {
       some_one = g.some_one;
@@ -94,19 +85,17 @@ module _ (entry : ℕ → Entry) (ids : List ℕ) where
       ends = e;
       cuts =
           sym g.rest ∙ ap (gather desk_end (so_far work k)) (here h)
-          ∙ begins (so_far work k) next (map entry (drop (suc k) ids)) (omega (arith, e))
-          ∙ ap (λ (es : List Entry). so_far work k ∷ cut_in_order desk_end es) (sym (here h));
+          ∙ begins (so_far work k) next (map meant (drop (k + 1) es)) (omega (arith, e))
+          ∙ ap (λ (l : List Entry). so_far work k ∷ cut_in_order desk_end l) (sym (here h));
     }
 
-    pub gathering_end : (over : ℕ) → over ≡ desk_end (entry (get_or ids 0 0)).ready work → length ids ≤ k
-        → Extends entry ids k over
-    gathering_end over e h = record {
+    pub gathering_end : (over : ℕ) → over ≡ desk_end (entry_at es 0).ready work → length es ≡ k → Extends es (length es) over
+    gathering_end over e h = rw h (record {
       some_one = g.some_one;
       within = g.within;
       work = work;
       ends = e;
       cuts =
-          let all : drop k ids ≡ [] =
-          let q : k ≡ length ids = omega (arith, g.within) in rw q (drop-length ids) in
-          sym g.rest ∙ ended (so_far work k) (map entry (drop k ids)) (ap (map entry) all);
-    }
+          sym g.rest
+          ∙ ended (so_far work k) (map meant (drop k es)) (ap (map meant) (drop_all k es (omega arith)));
+    })

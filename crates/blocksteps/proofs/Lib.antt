@@ -1,4 +1,4 @@
--- Laws by step: the board in its tables, a block gathered, marks, who is set aside.
+-- Laws by step: the board in its list, a block gathered, marks, who is set aside.
 pub mod Stored
 pub mod Gathering
 pub mod Marked

@@ -1,156 +1,94 @@
--- The board in its tables: a stretch stored behind the last one, or a later end stored in the last one, and what giving
--- slots away makes of the tables. Assumes nothing.
-use Prim.Native.Nat.{ℕ, zero, suc, ◌+◌, ◌-◌, ◌≤◌, ◌<◌}
-use mathlib.Core.Bool.{true, false, ◌&&◌}
-use mathlib.Core.List.{List, [], ◌∷◌}
-use mathlib.Core.Path.{◌≡◌, refl, sym, ap, ◌∙◌}
-use native.Mathlib.Numerals.{add-one}
-use native.Mathlib.Omega.{arith}
-use borrow.Author.Tests.{lt-ltb, le-ltb, ne_eqb, eqb-true}
-use lib.Dec.{eqb, ltb}
-use lib.ListN.{get_or, set, length-set}
-use lib.Seq.{get_or-set_same, get_or-set_other}
-use Rattle.rules.specs.Words.{when}
-use Rattle.laws.proofs.Words.{by_test, true_or_false, and_true, when_true, when_false}
-use Rattle.method.specs.Board.{Stretch, stretch, stretch_at, board_in, touching, joined, give, Tables, Holds, whom, share}
+-- The board in the list of its runs: a stretch put at the end, or a later end put into the last one. Assumes nothing.
+use Rattle.std.proofs.Common.{ℕ, ◌+◌, ◌-◌, ◌≤◌, ◌<◌, true, false, ◌&&◌, List, [], ◌∷◌, ◌++◌, ◌≡◌, ◌∙◌, refl, sym, ap, length, get_or, set, take, eqb, ltb, arith}
+use Rattle.std.specs.Prelude.{reverse}
+use Rattle.std.specs.List.{refill}
+use Rattle.std.proofs.Math.Option.{some}
+use Rattle.std.proofs.lemmas.List.{reverse-append, take_more, take_all, set_at, length-take-le, drop_all, append-nil}
+use borrow.Author.Tests.{lt-ltb, le-ltb, eqb-true}
+use Rattle.rules.specs.Tables.{no_run}
+use Rattle.rules.specs.declared.Run.{Run as Stretch}
+use Rattle.laws.proofs.Words.{true_or_false, and_true, when_true, when_false}
+use Rattle.method.specs.Board.{stretch, board_of, touching, joined, give}
 
--- A board looks at its own places alone.
-pub board_same : (k : ℕ) (p f u q g v : List ℕ) → ((i : ℕ) → i < k → get_or p i 0 ≡ get_or q i 0)
-    → ((i : ℕ) → i < k → get_or f i 0 ≡ get_or g i 0) → ((i : ℕ) → i < k → get_or u i 0 ≡ get_or v i 0)
-    → board_in k p f u ≡ board_in k q g v
-unfolding board_in
-board_same zero p f u q g v a b c = refl
-board_same (suc k) p f u q g v a b c =
-    rw (
-      a k (omega arith),
-      b k (omega arith),
-      c k (omega arith),
-      board_same k p f u q g v (λ i h. a i (omega arith)) (λ i h. b i (omega arith)) (λ i h. c i (omega arith)),
-    )
+-- The last of a list that is not empty.
+abbrev pub last_of : List Stretch → Stretch
+last_of runs = get_or runs (length runs - 1) no_run
 
--- The last stretch of a board that is not empty.
-pub board_last : (k : ℕ) (p f u : List ℕ) → 0 < k
-    → board_in k p f u ≡ stretch_at p f u (k - 1) ∷ board_in (k - 1) p f u
-unfolding board_in
-board_last zero p f u h = absurd (omega arith)
-board_last (suc k) p f u h = let q : suc k - 1 ≡ k = omega arith in rw q
+abbrev front_of : List Stretch → List Stretch
+front_of runs = take (length runs - 1) runs
 
-pub touching_last : (x t k : ℕ) (p f u : List ℕ) → 0 < k
-    → touching x t (board_in k p f u) ≡ (eqb (get_or u (k - 1) 0) t && eqb (get_or p (k - 1) 0) x)
+split_last : (runs : List Stretch) → 0 < length runs → runs ≡ front_of runs ++ (last_of runs ∷ [])
+split_last runs h =
+    let one : length runs - 1 + 1 ≡ length runs = omega arith in
+    sym (sym (take_more runs (length runs - 1) no_run (omega arith))
+    ∙ ap (λ (k : ℕ). take k runs) one ∙ take_all (length runs) runs (omega arith))
+
+board_last : (runs : List Stretch) → 0 < length runs → board_of runs ≡ last_of runs ∷ reverse (front_of runs)
+board_last runs h =
+    ap reverse (split_last runs h) ∙ reverse-append (front_of runs) (last_of runs ∷ [])
+
+-- The last stretch is looked at, if there is one.
+pub touching_last : (p f : ℕ) (runs : List Stretch) → 0 < length runs
+    → touching p f (board_of runs) ≡ (eqb (last_of runs).until f && eqb (last_of runs).piece p)
 unfolding touching
-touching_last x t k p f u h = rw (board_last k p f u h)
+touching_last p f runs h = ap (touching p f) (board_last runs h)
 
-pub touching-some : (x t k : ℕ) (p f u : List ℕ) → touching x t (board_in k p f u) ≡ true → 0 < k
-unfolding touching board_in
-touching-some x t zero p f u h = true_or_false (sym h)
-touching-some x t (suc k) p f u h = omega arith
+pub touching_none : (p f : ℕ) (runs : List Stretch) → length runs ≡ 0 → touching p f (board_of runs) ≡ false
+unfolding touching
+touching_none p f [] h = refl
+touching_none p f (r ∷ runs) h = absurd (omega arith)
 
--- What a gift can add.
-pub share_most : (x : ℕ) → share x ≤ 1
-unfolding share
-share_most x = by_test (eqb x 65535) (λ e. rw (e, when) (omega arith)) (λ e. rw (e, when) (omega arith))
+pub touching_some : (p f : ℕ) (runs : List Stretch) → touching p f (board_of runs) ≡ true → 0 < length runs
+unfolding touching
+touching_some p f [] h = true_or_false (sym h)
+touching_some p f (r ∷ runs) h = omega arith
 
-pub share_one : (x : ℕ) → (x ≡ 65535 → ⊥) → share x ≡ 1
-unfolding share
-share_one x ne = when_false (eqb x 65535) 0 1 (ne_eqb x 65535 ne)
+-- Slots that are none.
+pub no_slots : (p f u : ℕ) (b : List Stretch) → u ≤ f → b ≡ give (some p) f u b
+unfolding give
+no_slots p f u b h = sym (when_false (ltb f u) (joined p f u b) b (le-ltb f u h))
 
-pub share-none : share 65535 ≡ 0
-unfolding share when
-share-none = refl
+module _ (p f u : ℕ) (runs : List Stretch) (slots : f < u) where
+  given : give (some p) f u (board_of runs) ≡ joined p f u (board_of runs)
+  unfolding give
+  given = when_true (ltb f u) (joined p f u (board_of runs)) (board_of runs) (lt-ltb f u slots)
 
--- Nobody gets slots, and slots that are none.
-pub give_nobody : (f u : ℕ) (b : List Stretch) → give (whom 65535) f u b ≡ b
-unfolding whom when give
-give_nobody f u b = refl
-
-pub give-none : (x f u : ℕ) (b : List Stretch) → u ≤ f → give (whom x) f u b ≡ b
-unfolding whom give
-give-none x f u b h =
-    by_test (eqb x 65535)
-    (λ e. rw (e, when))
-    (λ e. rw (e, when) (when_false (ltb f u) (joined x f u b) b (le-ltb f u h)))
-
-pub give-some : (x f u : ℕ) (b : List Stretch) → (x ≡ 65535 → ⊥) → f < u → give (whom x) f u b ≡ joined x f u b
-unfolding whom give
-give-some x f u b ne h =
-    rw (ne_eqb x 65535 ne, when) (when_true (ltb f u) (joined x f u b) b (lt-ltb f u h))
-
-joined_new : (x f u : ℕ) (b : List Stretch) → touching x f b ≡ false → joined x f u b ≡ stretch x f u ∷ b
-unfolding joined touching
-joined_new x f u [] h = refl
-joined_new x f u (r ∷ b) h = when_false _ _ _ h
-
-module _ (k : ℕ) (p f u : List ℕ) (t : Tables p f u) (x from until : ℕ) where
   -- The last stretch made longer.
-  made_longer : touching x from (board_in k p f u) ≡ true → k ≤ 512
-      → board_in k p f (set u (k - 1) until) ≡ joined x from until (board_in k p f u)
+  pub longer : touching p f (board_of runs) ≡ true
+      → board_of (set runs (length runs - 1) (stretch (last_of runs).piece (last_of runs).from u))
+      ≡ give (some p) f u (board_of runs)
   unfolding joined touching
-  made_longer h few =
-      let some_one : 0 < k = touching-some x from k p f u h in
-      let e : (eqb (get_or u (k - 1) 0) from && eqb (get_or p (k - 1) 0) x) ≡ true =
-      sym (touching_last x from k p f u some_one) ∙ h in
-      let same : get_or p (k - 1) 0 ≡ x =
-      eqb-true (get_or p (k - 1) 0) x (and_true (eqb (get_or u (k - 1) 0) from) (eqb (get_or p (k - 1) 0) x) e).1 in
-      let kept : board_in (k - 1) p f (set u (k - 1) until) ≡ board_in (k - 1) p f u =
-      board_same (k - 1) p f (set u (k - 1) until) p f u (λ i l. refl) (λ i l. refl)
-      (λ i l. get_or-set_other u (k - 1) i until 0 (λ q. absurd (omega arith))) in
-      board_last k p f (set u (k - 1) until) some_one
-      ∙ ap (λ (b : List Stretch). stretch (get_or p (k - 1) 0) (get_or f (k - 1) 0)
-      (get_or (set u (k - 1) until) (k - 1) 0) ∷ b) kept
-      ∙ rw (get_or-set_same u (k - 1) until 0 (omega (arith, t.untils_sized)), same)
-      (sym (ap (joined x from until) (board_last k p f u some_one) ∙ when_true _ _ _ e))
+  longer h =
+      let some_one : 0 < length runs = touching_some p f runs h in
+      let e : (eqb (last_of runs).until f && eqb (last_of runs).piece p) ≡ true =
+      sym (touching_last p f runs some_one) ∙ h in
+      let same : (last_of runs).piece ≡ p =
+      eqb-true (last_of runs).piece p (and_true (eqb (last_of runs).until f) (eqb (last_of runs).piece p) e).1 in
+      let new : Stretch = stretch (last_of runs).piece (last_of runs).from u in
+      ap (λ (l : List Stretch). reverse (set l (length runs - 1) new)) (split_last runs some_one)
+      ∙ ap reverse (set_at (front_of runs) (last_of runs) [] new (length runs - 1)
+      (length-take-le (length runs - 1) runs (omega arith)))
+      ∙ reverse-append (front_of runs) (new ∷ [])
+      ∙ ap (λ (q : ℕ). stretch q (last_of runs).from u ∷ reverse (front_of runs)) same
+      ∙ sym (given ∙ ap (joined p f u) (board_last runs some_one) ∙ when_true _ _ _ e)
 
   -- A new stretch.
-  new_last : touching x from (board_in k p f u) ≡ false → k < 512
-      → board_in (k + 1) (set p k x) (set f k from) (set u k until) ≡ joined x from until (board_in k p f u)
-  unfolding board_in
-  new_last h few =
-      rw (
-        add-one,
-        get_or-set_same p k x 0 (omega (arith, t.pieces_sized)),
-        get_or-set_same f k from 0 (omega (arith, t.froms_sized)),
-        get_or-set_same u k until 0 (omega (arith, t.untils_sized)),
-        board_same k (set p k x) (set f k from) (set u k until) p f u
-            (λ i l. get_or-set_other p k i x 0 (λ q. absurd (omega arith)))
-            (λ i l. get_or-set_other f k i from 0 (λ q. absurd (omega arith)))
-            (λ i l. get_or-set_other u k i until 0 (λ q. absurd (omega arith))),
-      )
-      (sym (joined_new x from until (board_in k p f u) h))
+  pub behind : touching p f (board_of runs) ≡ false
+      → board_of (runs ++ (stretch p f u ∷ [])) ≡ give (some p) f u (board_of runs)
+  unfolding joined touching
+  behind h = reverse-append runs (stretch p f u ∷ []) ∙ sym (given ∙ new_last (board_of runs) h)
+    where
+      new_last : (b : List Stretch) → touching p f b ≡ false → joined p f u b ≡ stretch p f u ∷ b
+      new_last [] h = refl
+      new_last (r ∷ b) h = when_false _ _ _ h
 
-  -- What the tables hold after each way of giving slots away.
-  abbrev Gives : List ℕ → List ℕ → List ℕ → ℕ → Type 0
-  Gives q g v r = Holds q g v r (k + share x) (give (whom x) from until (board_in k p f u))
+pub seen_last : (p f : ℕ) (runs : List Stretch) (x : Stretch) → 0 < length runs → x ≡ last_of runs
+    → touching p f (board_of runs) ≡ (eqb x.until f && eqb x.piece p)
+seen_last p f runs x h e =
+    touching_last p f runs h ∙ ap (λ (r : Stretch). eqb r.until f && eqb r.piece p) (sym e)
 
-  pub to_nobody : x ≡ 65535 → Gives p f u k
-  to_nobody e = record {
-    tables = t;
-    few = omega arith;
-    board = rw e (sym (give_nobody from until (board_in k p f u)));
-  }
-
-  pub no_slots : until ≤ from → Gives p f u k
-  no_slots h = record { tables = t; few = omega arith; board = sym (give-none x from until (board_in k p f u) h) }
-
-  module _ (ne : x ≡ 65535 → ⊥) (slots : from < until) where
-    pub longer : touching x from (board_in k p f u) ≡ true → k ≤ 512 → Gives p f (set u (k - 1) until) k
-    longer h few = record {
-      tables = record {
-        pieces_sized = t.pieces_sized;
-        froms_sized = t.froms_sized;
-        untils_sized = length-set u (k - 1) until ∙ t.untils_sized;
-      };
-      few = omega arith;
-      board = made_longer h few ∙ sym (give-some x from until (board_in k p f u) ne slots);
-    }
-
-    pub behind : touching x from (board_in k p f u) ≡ false → k < 512
-        → Gives (set p k x) (set f k from) (set u k until) (k + 1)
-    behind h few = record {
-      tables = record {
-        pieces_sized = length-set p k x ∙ t.pieces_sized;
-        froms_sized = length-set f k from ∙ t.froms_sized;
-        untils_sized = length-set u k until ∙ t.untils_sized;
-      };
-      few = omega (arith, share_one x ne);
-      board = new_last h few ∙ sym (give-some x from until (board_in k p f u) ne slots);
-    }
+-- A list written through a slice of it.
+pub written_through : (n : ℕ) (xs ws : List Stretch) → n ≡ length xs → length ws ≡ length xs → refill n xs ws ≡ ws
+written_through n xs ws h k =
+    ap (λ (l : List Stretch). take n (ws ++ l)) (drop_all (length ws) xs (omega arith))
+    ∙ ap (take n) (append-nil ws) ∙ take_all n ws (omega arith)

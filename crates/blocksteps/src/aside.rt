@@ -1,137 +1,109 @@
 // Who is set aside of a block: among the pieces without a piece after them by a direct link in the same block, the one
 // with least cost at the block's end (greatest latest moment; highest number where equal). And the block without it.
-ghost use Rattle.std.specs.Prelude.{Bool, ◌&&◌, ◌||◌, List, ◌≡◌, ℕ, ◌≤◌, ◌<◌, ltb, length};
-ghost use Rattle.std.specs.Int.Signed.{lt_z, le_z};
-ghost use Rattle.blocksteps.specs.Listed.{tied_in};
-ghost use Rattle.blocksteps.specs.Aside.{Marks, no_mark, member_mark, led_mark, Tied, Known};
-ghost use Rattle.blocksteps.specs.Aside.{Cheaper, Aside, Without};
+ghost use Rattle.std.specs.Prelude.{ℕ, Bool, List, ◌≡◌, length};
+ghost use Rattle.rules.specs.Rings.{linked_by};
+ghost use Rattle.rules.specs.Blocks.{costs_less, cheaper};
+ghost use Rattle.entries.specs.Lent.{meant};
+ghost use Rattle.entries.specs.declared.list.Entry.{Entry as Struct};
+ghost use Rattle.blocksteps.specs.Aside.{Marks, no_mark, member_mark, led_mark, Tied, Known, optional, Aside, Without};
 
-use crate::board::NOBODY;
+use entries::list::{Entry, put_entry, take_entry};
+use rules::Link;
 
-fn clear_marks(marks: &mut [u8; 256])
-    requires { length marks.old ≡ 256 }
-    ensures { Marks marks.new no_mark }
-{
-    let mut i = 0;
-    while i < 256 {
-        marks[i] = 0;
-        i += 1;
-    }
+/// What a block says of a piece.
+#[derive(Clone, Copy, Debug, PartialEq, Eq)]
+pub enum Mark {
+    /// It is in another block, or in none.
+    Outside,
+    Member,
+    /// It is a member, and a piece after it by a direct link is one too.
+    Led,
 }
 
-fn mark_members(ids: &[u16], marks: &mut [u8; 256])
-    requires known { Known ids.now }
-    requires marks_len { length marks.old ≡ 256 }
-    ensures { Marks marks.new (member_mark ids.now) }
+fn mark_members(entries: &[Entry], marks: &mut [Mark; 256])
+    requires known { Known entries.now }
+    requires clear { Marks marks.old no_mark }
+    ensures { Marks marks.new (member_mark entries.now) }
 {
-    clear_marks(marks);
-    let mut k = 0;
-    while k < ids.len() {
-        let i = ids[k] as usize;
-        marks[i] = 1;
-        k += 1;
+    for entry in entries {
+        marks[usize::from(entry.number)] = Mark::Member;
     }
 }
 
 // Each link is looked at once: the piece before it is marked where both its pieces are in the block.
-fn mark_led(m: usize, befores: &[u16; 1024], afters: &[u16; 1024], marks: &mut [u8; 256])
-    requires tied { Tied m befores.now afters.now }
-    requires marks_len { length marks.old ≡ 256 }
-    ensures { (ids : List ℕ) → Marks marks.old (member_mark ids)
-        → Marks marks.new (led_mark (tied_in m befores.now afters.now) ids) }
+fn mark_led(links: &[Link], marks: &mut [Mark; 256])
+    requires tied { Tied links.now }
+    ensures { (entries : List Struct) → Marks marks.old (member_mark entries)
+        → Marks marks.new (led_mark (linked_by links.now) entries) }
 {
-    let mut k = 0;
-    while k < m {
-        let b = befores[k] as usize;
-        let a = afters[k] as usize;
-        if marks[b] != 0 {
-            if marks[a] != 0 {
-                marks[b] = 2;
-            }
+    for link in links {
+        let before = usize::from(link.before);
+        let after = usize::from(link.after);
+        if marks[before] != Mark::Outside && marks[after] != Mark::Outside {
+            marks[before] = Mark::Led;
         }
-        k += 1;
     }
 }
 
-// Piece a costs less than piece b at the block's end.
-fn costs_less(latest_a: i32, a: u16, latest_b: i32, b: u16) -> bool
-    ensures { result ≡ (lt_z latest_b latest_a || (le_z latest_b latest_a && ltb b a)) }
+// The entry costs less than the other at the block's end.
+fn costs_less(entry: &Entry, other: &Entry) -> bool
+    ensures { result ≡ costs_less (meant entry.now) (meant other.now) }
 {
-    if latest_b < latest_a {
-        return true;
-    }
-    if latest_b <= latest_a {
-        return b < a;
-    }
-    false
+    (other.latest, other.number) < (entry.latest, entry.number)
 }
 
-fn cheaper(latests: &[i32; 256], best: u16, id: u16) -> u16
-    requires id_bound { id < 256 }
-    requires best_bound { (best ≡ 65535 → ⊥) → best < 256 }
-    ensures { Cheaper latests.now best id result }
+// The cheaper of an entry and the best so far.
+fn cheaper(entry: Entry, best: Option<Entry>) -> Entry
+    ensures { meant result ≡ cheaper (meant entry) (optional meant best) }
 {
-    if best == NOBODY {
-        return id;
+    let Some(best) = best else {
+        return entry;
+    };
+    if costs_less(&best, &entry) {
+        best
+    } else {
+        entry
     }
-    let b = best as usize;
-    let i = id as usize;
-    if costs_less(latests[b], best, latests[i], id) {
-        return best;
-    }
-    id
 }
 
-fn cheapest(ids: &[u16], latests: &[i32; 256], marks: &[u8; 256]) -> u16
-    requires { Known ids.now }
-    ensures { (follows : ℕ → ℕ → Bool) → Marks marks.now (led_mark follows ids.now)
-        → Aside follows latests.now ids.now result }
+// The cheapest of those that are members and led by none.
+fn cheapest(entries: &[Entry], marks: &[Mark; 256]) -> Option<Entry>
+    requires { Known entries.now }
+    ensures { (follows : ℕ → ℕ → Bool) → Marks marks.now (led_mark follows entries.now)
+        → Aside follows entries.now result }
 {
-    let mut best = NOBODY;
-    let mut k = ids.len();
-    while 0 < k {
-        k -= 1;
-        let id = ids[k];
-        let i = id as usize;
-        if marks[i] == 1 {
-            best = cheaper(latests, best, id);
+    let mut best = None;
+    for entry in entries.iter().rev() {
+        if marks[usize::from(entry.number)] == Mark::Member {
+            best = Some(cheaper(*entry, best));
         }
     }
     best
 }
 
-pub fn set_aside(
-    m: usize,
-    befores: &[u16; 1024],
-    afters: &[u16; 1024],
-    latests: &[i32; 256],
-    ids: &[u16],
-    marks: &mut [u8; 256],
-) -> u16
-    requires tied { Tied m befores.now afters.now }
-    requires known { Known ids.now }
-    requires marks_len { length marks.old ≡ 256 }
-    ensures aside { Aside (tied_in m befores.now afters.now) latests.now ids.now result }
-    ensures marks_len_2 { length marks.new ≡ 256 }
+/// The entry that is set aside of a block; none where each has a piece after it.
+pub fn set_aside(links: &[Link], entries: &[Entry]) -> Option<Entry>
+    requires tied { Tied links.now }
+    requires known { Known entries.now }
+    ensures { Aside (linked_by links.now) entries.now result }
 {
-    mark_members(ids, marks);
-    mark_led(m, befores, afters, marks);
-    cheapest(ids, latests, marks)
+    let mut marks = [Mark::Outside; 256];
+    mark_members(entries, &mut marks);
+    mark_led(links, &mut marks);
+    cheapest(entries, &marks)
 }
 
-// Takes the piece out of the list: the others move up, and their count is returned.
-pub fn without(ids: &mut [u16], piece: u16) -> usize
-    ensures { Without ids.old piece ids.new result }
+/// Takes the piece of that number out of the slice: the others move up, and their count is returned.
+pub fn without(entries: &mut [Entry], number: u16) -> usize
+    ensures { Without entries.old number entries.new result }
 {
     let mut kept = 0;
-    let mut k = 0;
-    while k < ids.len() {
-        let id = ids[k];
-        if id != piece {
-            ids[kept] = id;
+    for k in 0..entries.len() {
+        let entry = take_entry(entries, k);
+        if entry.number != number {
+            put_entry(entries, kept, entry);
             kept += 1;
         }
-        k += 1;
     }
     kept
 }

@@ -1,17 +1,19 @@
-// The first block of a set: pieces in order of raised ready moment are gathered as long as the next one is ready before
+// The first block of a set: entries in order of raised ready moment are gathered as long as the next one is ready before
 // those gathered so far could be done.
-ghost use Rattle.std.specs.Prelude.{List, ◌≡◌, ℕ, ◌+◌, ◌≤◌, ◌<◌, ℤ, length};
+ghost use Rattle.std.specs.Prelude.{◌≡◌, ◌+◌, ◌<◌, length};
 ghost use Rattle.method.specs.Hours.{desk_end};
-ghost use Rattle.blocksteps.specs.Listed.{entry_in, Listed, Same16, Extends};
+ghost use Rattle.blocksteps.specs.Listed.{Listed, Extends};
 
-// A block: how many of the set's pieces it has, and its end.
-#[derive(Clone, Copy)]
+use entries::list::Entry;
+
+/// A block: how many of the set's entries it has, and its end.
+#[derive(Clone, Copy, Debug, PartialEq, Eq)]
 pub struct Extent {
     pub count: usize,
     pub end: u32,
 }
 
-// The moment by which the desk has had k slots since moment t.
+/// The moment by which the desk has had k slots since moment t.
 pub fn open_end(t: u32, k: u32) -> u32
     requires { t + k < 4294967296 }
     ensures { result ≡ desk_end t k }
@@ -19,31 +21,24 @@ pub fn open_end(t: u32, k: u32) -> u32
     t + k
 }
 
-pub fn wide(x: u16) -> u32
-    ensures { Same16 x result }
+/// The first block of the set.
+pub fn gather_block(entries: &[Entry]) -> Extent
+    requires listed { Listed entries.now }
+    requires some_one { 0 < length entries.now }
+    ensures { Extends entries.now result.count result.end }
 {
-    x as u32
-}
-
-pub fn gather_block(ids: &[u16], ready: &[u32; 256], durations: &[u16; 256]) -> Extent
-    requires listed { Listed ready.now ids.now }
-    requires ids_nonzero { 0 < length ids.now }
-    ensures { (latests : List ℤ) →
-        Extends (entry_in ready.now durations.now latests) ids.now result.count result.end }
-{
-    let first = ids[0] as usize;
-    let from = ready[first];
-    let mut work = wide(durations[first]);
+    let from = entries[0].ready;
+    let mut work = u32::from(entries[0].duration);
     let mut end = open_end(from, work);
-    let mut k = 1;
-    while k < ids.len() {
-        let i = ids[k] as usize;
-        if end <= ready[i] {
-            return Extent { count: k, end: end };
+    for k in 1..entries.len() {
+        if end <= entries[k].ready {
+            return Extent { count: k, end };
         }
-        work += wide(durations[i]);
+        work += u32::from(entries[k].duration);
         end = open_end(from, work);
-        k += 1;
     }
-    Extent { count: k, end: end }
+    Extent {
+        count: entries.len(),
+        end,
+    }
 }

@@ -1,4 +1,4 @@
-// The steps of the block method on tables of numbers: slots given away on the board, the first block of a set, and who
+// The steps of the block method on one desk's entries: slots given away on the board, the first block of a set, and who
 // is set aside of a block.
 #![tactic(auto)]
 

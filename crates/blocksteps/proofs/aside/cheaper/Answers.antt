@@ -1,26 +1,18 @@
 -- `cheaper` meets its contract, way by way.
-use Rattle.std.proofs.Common.{rules}
-use lib.IntN.{pos}
-use lib.ListN.{get_or}
-use mathlib.Core.Path.{◌∙◌}
-use Rattle.blocksteps.proofs.Chosen.{less_read, no_best, best_stays, new_best}
+use Rattle.std.proofs.Common.{sym}
+use Rattle.rules.specs.Blocks.{cheaper}
+use Rattle.laws.proofs.Words.{when_true, when_false}
+use Rattle.entries.specs.Lent.{meant}
 use Rattle.blocksteps.proofs.aside.cheaper.Goals as goal
 
-pub returns-then-best-eq-NOBODY : goal.returns-then-best-eq-NOBODY
-returns-then-best-eq-NOBODY c = no_best _ _ _ c.requires.id_bound c.if-best-eq-NOBODY.true
+pub returns-in_default : goal.returns-in_default
+unfolding cheaper
+returns-in_default c = rw c.in_default.is
 
 pub returns-then-costs_less : goal.returns-then-costs_less
-returns-then-costs_less c = let a = c.args in
-    best_stays a.latests.now a.best a.id c.requires.id_bound
-    (c.requires.best_bound c.if-best-eq-NOBODY.false)
-    (less_read (get_or a.latests.now a.best (pos 0)) (get_or a.latests.now a.id (pos 0)) a.best a.id
-    c.costs_less.result c.costs_less.ensures (record { sfits = search rules }) (record { sfits = search rules })
-    ∙ c.if-costs_less.true)
+unfolding cheaper
+returns-then-costs_less c = rw c.in-Some.is (sym (when_true _ _ (meant c.args.entry) (sym c.if-costs_less.ensures)))
 
-pub returns : goal.returns
-returns c = let a = c.args in
-    new_best a.latests.now a.best a.id c.requires.id_bound
-    (c.requires.best_bound c.if-best-eq-NOBODY.false)
-    (less_read (get_or a.latests.now a.best (pos 0)) (get_or a.latests.now a.id (pos 0)) a.best a.id
-    c.costs_less.result c.costs_less.ensures (record { sfits = search rules }) (record { sfits = search rules })
-    ∙ c.if-costs_less.false)
+pub returns-else-costs_less : goal.returns-else-costs_less
+unfolding cheaper
+returns-else-costs_less c = rw c.in-Some.is (sym (when_false _ (meant c.in-Some.best) _ (sym c.if-costs_less.ensures)))

@@ -1,51 +1,56 @@
--- `cheapest` meets its contract: the best of the pieces from place k on is known, and from place 0 on it is the best of
--- all.
-use Prim.Native.Nat.{suc, ◌-◌}
-use mathlib.Core.Path.{◌≡◌, refl}
-use native.Mathlib.Omega.{arith}
-use Rattle.blocksteps.specs.Listed.{entry_in}
-use Rattle.blocksteps.proofs.Chosen.{named_in, best_of_none, best_skip, best_take, best_of_all}
+-- `cheapest` meets its contract: the best of the entries behind is known, and with those in front it is the best of all.
+use Rattle.std.proofs.Common.{◌≡◌, ◌<◌, List, [], ◌∷◌, ◌++◌, length, sym, rules}
+use denote.Enum.Bare.{same_true, same_false}
+use Rattle.entries.specs.declared.list.Entry.{Entry}
+use Rattle.blocksteps.specs.contracts.aside.Mark.{the_type}
+use Rattle.blocksteps.specs.declared.aside.Mark.TheVariants.{Member}
+use Rattle.blocksteps.proofs.Chosen.{Front, front_all, front_less, last_at, last_within, best_of_none, best_take, best_skip, best_of_all}
+use Rattle.blocksteps.specs.Aside.{Known}
 use Rattle.blocksteps.proofs.aside.cheapest.Goals as goal
 
-pub loop-k-init : goal.loop-k-init
-loop-k-init c = (
-  λ follows h ready durations.
-      best_of_none follows (entry_in ready durations c.args.latests.now) (named_in ready durations _)
-      c.args.ids.now,
-  omega arith,
-  λ ne. absurd (ne refl),
-)
+-- Its number is known.
+known_last : (es before front : List Entry) (e : Entry) → Known es → Front before es → before ≡ front ++ (e ∷ [])
+    → e.number < 256
+known_last es before front e known f h =
+    rw (last_at before front es e f h) at (known (length front) (last_within before front es e f h))
 
-pub loop-k-preserved-then-marks-i-eq1 : goal.loop-k-preserved-then-marks-i-eq1
-loop-k-preserved-then-marks-i-eq1 c = let a = c.args in
-    let s = c.loop-k in
-    let e : suc (s.k - 1) ≡ s.k = omega arith in (
-      λ follows h ready durations.
-          best_take follows (entry_in ready durations a.latests.now) (named_in ready durations _) a.ids.now _ h
-          (s.k - 1) s.best (omega arith)
-          (c.requires (s.k - 1) (omega arith))
-          (rw e (s.invariant.0 follows h ready durations)) c.cheaper-best.result c.if-marks-i-eq1.true
-          (c.cheaper-best.ensures.chosen ready durations),
-      omega arith,
-      λ ne. c.cheaper-best.ensures.small,
+pub loop-entry-init : goal.loop-entry-init
+loop-entry-init c =
+    let all : c.into_iter-entry-iterator.result.iter.rest.now ≡ c.args.entries.now =
+    cc (c.iter.ensures.rest, c.rev-entry-items.ensures.source, c.into_iter-entry-iterator.ensures.into_iter_gives) in
+    (front_all _ _ all, λ follows h. best_of_none follows c.args.entries.now _ all)
+
+pub loop-entry-preserved-then-eq : goal.loop-entry-preserved-then-eq
+loop-entry-preserved-then-eq c =
+    let s = c.loop-entry in
+    let es = c.args.entries.now in
+    let before = s.entry-iterator.iter.rest.now in
+    let front = c.next.new.self.iter.rest.now in
+    let e = c.in-Some.entry.now in
+    let split = c.in-Some.ensures.steps in (
+      front_less before front es e s.invariant.0 split,
+      λ follows h. best_take follows es _ h before front e s.invariant.0 split
+          (known_last es before front e c.requires s.invariant.0 split) s.best (s.invariant.1 follows h)
+          c.cheaper.result (rw c.from.ensures at (same_true the_type (search rules) _ Member (sym c.if-eq.ensures)))
+          c.cheaper.ensures,
     )
 
-pub loop-k-preserved : goal.loop-k-preserved
-loop-k-preserved c = let a = c.args in
-    let s = c.loop-k in
-    let e : suc (s.k - 1) ≡ s.k = omega arith in (
-      λ follows h ready durations.
-          best_skip follows (entry_in ready durations a.latests.now) (named_in ready durations _) a.ids.now _ h
-          (s.k - 1) s.best (omega arith)
-          (c.requires (s.k - 1) (omega arith))
-          (rw e (s.invariant.0 follows h ready durations)) c.if-marks-i-eq1.false,
-      omega arith,
-      s.invariant.2,
+pub loop-entry-preserved : goal.loop-entry-preserved
+loop-entry-preserved c =
+    let s = c.loop-entry in
+    let es = c.args.entries.now in
+    let before = s.entry-iterator.iter.rest.now in
+    let front = c.next.new.self.iter.rest.now in
+    let e = c.in-Some.entry.now in
+    let split = c.in-Some.ensures.steps in (
+      front_less before front es e s.invariant.0 split,
+      λ follows h. best_skip follows es _ h before front e s.invariant.0 split
+          (known_last es before front e c.requires s.invariant.0 split) s.best (s.invariant.1 follows h)
+          (rw c.from.ensures at (same_false the_type _ Member (sym c.if-eq.ensures))),
     )
 
 pub returns : goal.returns
-returns c follows h ready durations from work = let a = c.args in
-    let e : c.loop-k.k ≡ 0 = omega arith in
-    best_of_all follows (entry_in ready durations a.latests.now) (named_in ready durations _)
-    a.ids.now _ from work
-    (rw e at (c.loop-k.invariant.0 follows h ready durations))
+returns c follows h =
+    let s = c.loop-entry in
+    best_of_all follows c.args.entries.now s.entry-iterator.iter.rest.now s.best (s.invariant.1 follows h)
+    c.in-None.ensures.steps.0

@@ -1,18 +1,11 @@
--- `mark_led` meets its contract: after k links the marks tell who is led by one of them into the list.
-use Prim.Native.Nat.{◌-◌, ◌≤◌}
-use mathlib.Core.List.{List}
-use mathlib.Core.Path.{◌≡◌}
-use Prim.Native.Nat.{ℕ}
-use lib.ListN.{length}
-use Rattle.blocksteps.specs.Listed.{tied_in}
+-- `mark_led` meets its contract: after k links the marks tell who is led by one of them into the slice.
+use Rattle.std.proofs.Common.{List, take}
+use Rattle.rules.specs.Rings.{linked_by}
+use Rattle.entries.specs.declared.list.Entry.{Entry}
 use Rattle.blocksteps.specs.Aside.{Marks, member_mark, led_mark}
 use Rattle.blocksteps.proofs.aside.mark_led.Given as goal
 
-abbrev pub invariant-loop-k : goal.invariant-loop-k
-invariant-loop-k l =
-    (l.k ≤ l.m) × (length l.marks ≡ 256)
-    × ((ids : List ℕ) → Marks l.initial.marks (member_mark ids)
-    → Marks l.marks (led_mark (tied_in l.k l.befores l.afters) ids))
-
-abbrev pub decreases-loop-k : goal.decreases-loop-k
-decreases-loop-k l = l.m - l.k
+abbrev pub invariant-loop-link : goal.invariant-loop-link
+invariant-loop-link l =
+    (es : List Entry) → Marks l.initial.marks (member_mark es)
+    → Marks l.marks (led_mark (linked_by (take l.link-index l.links)) es)

@@ -1,10 +1,11 @@
 -- `set_aside` meets its contract: the marks of the members, of the led ones, and the cheapest of the others.
-use Rattle.blocksteps.specs.Aside.{Marks, led_mark}
-use Rattle.blocksteps.specs.Listed.{tied_in}
+use Rattle.rules.specs.Rings.{linked_by}
+use Rattle.blocksteps.proofs.Marked.{marks_clear}
 use Rattle.blocksteps.proofs.aside.set_aside.Goals as goal
 
-pub returns-clause-aside : goal.returns-clause-aside
-returns-clause-aside c = let a = c.args in
-    let m : Marks _ (led_mark (tied_in a.m a.befores.now a.afters.now) a.ids.now) =
-    c.mark_led.ensures a.ids.now c.mark_members.ensures in
-    c.cheapest.ensures (tied_in a.m a.befores.now a.afters.now) m
+pub mark_members-requires-clause-clear : goal.mark_members-requires-clause-clear
+mark_members-requires-clause-clear c = marks_clear
+
+pub returns : goal.returns
+returns c =
+    c.cheapest.ensures (linked_by c.args.links.now) (c.mark_led.ensures c.args.entries.now c.mark_members.ensures)

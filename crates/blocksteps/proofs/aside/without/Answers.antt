@@ -1,19 +1,23 @@
 -- `without` meets its contract: of the first k those that are not the piece stand in front.
-use native.Mathlib.Omega.{arith}
+use Rattle.std.proofs.Common.{◌<◌, length, arith}
 use Rattle.blocksteps.proofs.Chosen.{keeping_none, keeping_skip, keeping_more}
 use Rattle.blocksteps.proofs.aside.without.Goals as goal
-use Rattle.blocksteps.proofs.aside.without.Goals.{then-id-piece, else-id-piece}
+use Rattle.blocksteps.proofs.aside.without.Goals.{then-entry-number, else-entry-number}
 
 pub loop-k-init : goal.loop-k-init
-loop-k-init c = keeping_none _ _
+loop-k-init c = keeping_none c.args.entries.now c.args.number
 
 -- what is kept after the turn
 pub loop-k-preserved : goal.loop-k-preserved
 loop-k-preserved c =
     let s = c.loop-k in
-    elim c.if-id-piece.branch [
-      | then-id-piece w ↦
-          rw (w.ids-is, w.kept-is) (keeping_more _ _ _ _ _ s.invariant (omega arith) w.if-id-piece.true)
-      | else-id-piece w ↦
-          rw (w.ids-is, w.kept-is) (keeping_skip _ _ _ _ _ s.invariant (omega arith) w.if-id-piece.false)
+    let e = c.take_entry-entry.ensures in
+    let here : s.k < length s.entries = omega arith in
+    elim c.if-entry-number.branch [
+      | then-entry-number w ↦
+          rw (w.entries-is, w.kept-is, w.put_entry.ensures, e)
+          (keeping_more c.args.entries.now s.entries _ s.kept s.k s.invariant here (rw e at w.if-entry-number.true))
+      | else-entry-number w ↦
+          rw (w.entries-is, w.kept-is)
+          (keeping_skip c.args.entries.now s.entries _ s.kept s.k s.invariant here (rw e at w.if-entry-number.false))
     ]

@@ -1,40 +1,39 @@
--- `give_slots` meets its contract: four ways, each with what the tables hold after it.
-use mathlib.Core.Path.{sym, ◌∙◌}
-use native.Mathlib.Omega.{arith}
-use Rattle.blocksteps.proofs.Stored.{touching-some, share_one, to_nobody, no_slots, longer, behind}
+-- `give_slots` meets its contract: four ways, each with what the board is after it.
+use Rattle.std.proofs.Common.{◌∙◌, ◌-◌, length, refl, sym, ap, arith}
+use Rattle.std.proofs.lemmas.List.{length-set}
+use Rattle.method.specs.Board.{board_of, give}
+use Rattle.blocksteps.proofs.Stored.{touching_some, no_slots, longer, behind, written_through}
 use Rattle.blocksteps.proofs.board.give_slots.Goals as goal
 
-pub returns-then-piece-eq-NOBODY : goal.returns-then-piece-eq-NOBODY
-returns-then-piece-eq-NOBODY c = to_nobody _ _ _ _ c.requires.tables _ _ _ c.if-piece-eq-NOBODY.true
+pub returns-in_default-clause-given : goal.returns-in_default-clause-given
+unfolding give
+returns-in_default-clause-given c = rw c.in_default.is
 
-pub returns-then-until-from : goal.returns-then-until-from
-returns-then-until-from c = no_slots _ _ _ _ c.requires.tables _ _ _ c.if-until-from.true
+pub returns-then-until-from-clause-given : goal.returns-then-until-from-clause-given
+returns-then-until-from-clause-given c =
+    rw c.in-Some.is (no_slots c.in-Some.piece _ _ _ c.if-until-from.true)
 
-pub overflow_sub-untils : goal.overflow_sub-untils
-overflow_sub-untils c =
-    let a = c.args in
-    touching-some a.piece a.from a.count a.pieces.now a.froms.now a.untils.now
-    (sym (c.touches.ensures a.froms.now) ∙ c.if-touches.true)
+pub overflow_sub-last : goal.overflow_sub-last
+overflow_sub-last c =
+    let some_one = touching_some c.in-Some.piece c.args.from c.deref.result.now (sym c.if-touches.ensures) in
+    omega (arith, some_one, ap length c.deref.ensures.0)
 
-pub returns-then-touches : goal.returns-then-touches
-returns-then-touches c =
-    longer c.args.count _ _ _ c.requires.tables _ _ _ c.if-piece-eq-NOBODY.false (omega arith)
-    (sym (c.touches.ensures c.args.froms.now) ∙ c.if-touches.true) (omega arith)
+pub bounds-deref_mut-last : goal.bounds-deref_mut-last
+bounds-deref_mut-last c =
+    let some_one = touching_some c.in-Some.piece c.args.from c.deref.result.now (sym c.if-touches.ensures) in
+    omega (arith, some_one, ap length c.deref.ensures.0, ap length c.deref_mut.ensures.value)
 
-pub bounds-pieces-count : goal.bounds-pieces-count
-bounds-pieces-count c =
-    omega (arith, share_one c.args.piece c.if-piece-eq-NOBODY.false)
+pub returns-then-touches-clause-given : goal.returns-then-touches-clause-given
+returns-then-touches-clause-given c =
+    let runs = c.args.runs.now.items in
+    rw (c.in-Some.is, c.deref_mut.ensures.value, c.len-last.ensures.value)
+    (ap board_of (written_through (length runs) runs _ refl (length-set runs (length runs - 1) _))
+    ∙ longer c.in-Some.piece c.args.from c.args.until runs (omega (arith, c.if-until-from.false))
+    (rw c.deref.ensures.0 at (sym c.if-touches.ensures)))
 
-pub bounds-froms-count : goal.bounds-froms-count
-bounds-froms-count c =
-    omega (arith, share_one c.args.piece c.if-piece-eq-NOBODY.false)
-
-pub bounds-untils-count-2 : goal.bounds-untils-count-2
-bounds-untils-count-2 c =
-    omega (arith, share_one c.args.piece c.if-piece-eq-NOBODY.false)
-
-pub returns : goal.returns
-returns c =
-    behind c.args.count _ _ _ c.requires.tables _ _ _ c.if-piece-eq-NOBODY.false (omega arith)
-    (sym (c.touches.ensures c.args.froms.now) ∙ c.if-touches.false)
-    (omega (arith, share_one c.args.piece c.if-piece-eq-NOBODY.false))
+pub returns-clause-given : goal.returns-clause-given
+returns-clause-given c =
+    let runs = c.args.runs.now.items in
+    rw (c.in-Some.is, c.push.ensures.items)
+    (behind c.in-Some.piece c.args.from c.args.until runs (omega (arith, c.if-until-from.false))
+    (rw c.deref.ensures.0 at (sym c.if-touches.ensures)))

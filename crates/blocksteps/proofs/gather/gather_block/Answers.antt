@@ -1,41 +1,21 @@
 -- `gather_block` meets its contract: what is left to gather gives the blocks of the whole set, and no sum wraps.
-use native.Mathlib.Omega.{arith}
-use Rattle.blocksteps.specs.Listed.{entry_in}
+use Rattle.std.proofs.Common.{arith}
 use Rattle.blocksteps.proofs.Gathering.{gathering_one, gathering_more, gathering_stop, gathering_end}
 use Rattle.blocksteps.proofs.gather.gather_block.Goals as goal
 
 pub loop-k-init : goal.loop-k-init
-unfolding entry_in
-loop-k-init c = (
-  λ latests. rw c.wide-work.ensures.same
-      (gathering_one _ _ c.requires.ids_nonzero),
-  omega arith,
-  c.open_end-end.ensures,
-  omega arith,
-)
+loop-k-init c = (rw c.from-work.ensures (gathering_one _ c.requires.some_one), c.open_end-end.ensures, omega arith)
 
-pub returns-then-end-ready : goal.returns-then-end-ready
-unfolding entry_in
-returns-then-end-ready c latests =
-    let L = c.loop-k in
-    gathering_stop _ _ _ _ (L.invariant.0 latests) _ L.invariant.2 (omega arith) (omega arith)
+pub returns-then-end-entries : goal.returns-then-end-entries
+returns-then-end-entries c = gathering_stop _ _ _ c.loop-k.invariant.0 _ c.loop-k.invariant.1 (omega arith) (omega arith)
 
 pub loop-k-preserved : goal.loop-k-preserved
-unfolding entry_in
 loop-k-preserved c = (
-  λ latests. rw c.wide-work-in-loop-k.ensures.same
-      (gathering_more _ _ _ _ (c.loop-k.invariant.0 latests)
-      (omega arith)
-      (omega (
-        arith,
-        c.loop-k.invariant.2,
-        c.if-end-ready.false,
-      ))),
-  omega arith,
+  rw c.from-work-in-loop-k.ensures
+      (gathering_more _ _ _ c.loop-k.invariant.0 (omega arith) (omega (arith, c.loop-k.invariant.1))),
   c.open_end-end-in-loop-k.ensures,
-  omega (arith, c.wide-work-in-loop-k.ensures.small),
+  omega arith,
 )
 
 pub returns : goal.returns
-unfolding entry_in
-returns c latests = gathering_end _ _ _ _ (c.loop-k.invariant.0 latests) _ c.loop-k.invariant.2 (omega arith)
+returns c = gathering_end _ _ _ c.loop-k.invariant.0 _ c.loop-k.invariant.1 (omega arith)
