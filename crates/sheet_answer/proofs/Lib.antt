@@ -1,5 +1,4 @@
 -- What the proofs of this crate share.
 pub mod RecordLaws
 pub mod SheetLaws
-pub mod FilledLaws
 pub mod Promised

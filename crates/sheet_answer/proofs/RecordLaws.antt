@@ -1,62 +1,43 @@
--- Records of one desk out of three tables: 16 bytes each, and one more is one store more.
-use Prim.Native.Nat.{ℕ, ◌+◌, ◌*◌}
-use mathlib.Core.List.{List, map}
-use mathlib.Core.Path.{◌≡◌, refl, sym, ap, ◌∙◌}
-use native.Mathlib.Omega.{arith}
-use native.Mathlib.Numerals.{add-one}
-use lib.ListN.{length, get_or, length-map}
-use lib.Seq.{sets, length-sets}
-use Rattle.rules.specs.Words.{below}
-use Rattle.rules.specs.Bytes.{word, plan_record}
-use Rattle.laws.proofs.Words.{length-below}
-use Rattle.laws.proofs.Joined.{joined_more, mem_of_map}
-use Rattle.laws.proofs.Bytes.{word_sized, record_sized, records_sized}
-use Rattle.records.proofs.Stores.{sets_on}
-use Rattle.sheet_answer.specs.Listed.{record_in, records_in}
+-- Records of a list, 16 bytes each, and one more behind them.
+use Rattle.std.specs.Prelude.{ℕ, ◌+◌, ◌*◌, ◌<◌, List, [], ◌∷◌, ◌++◌, map, ◌≡◌, length, get_or, take}
+use Rattle.std.proofs.Common.{refl, sym, ap, ◌∙◌, arith, length-append, append-nil, add-one}
+use Rattle.std.proofs.lemmas.List.{map-append}
+use Rattle.std.proofs.Math.Seq.{take-suc}
+use Rattle.rules.specs.Words.{joined}
+use Rattle.laws.proofs.Joined.{joined_append}
+use Rattle.records.specs.Laid.{row_bytes}
+use Rattle.records.specs.declared.put.Row.{Row}
+use Rattle.records.proofs.Stores.{length-row_bytes}
+use Rattle.sheet_answer.specs.Listed.{rows_bytes}
 
-module _ (kind d : ℕ) (numbers firsts seconds : List ℕ) where
-  pub record_is : (k : ℕ) → record_in kind d numbers firsts seconds k
-      ≡ plan_record kind d (get_or numbers k 0) (word (get_or firsts k 0)) (word (get_or seconds k 0)) (word 0)
-  unfolding record_in
-  record_is k = refl
+-- One more of a list.
+take-next : {A : Type 0} (items : List A) (k : ℕ) (x : A) → k < length items → x ≡ get_or items k x
+    → take (k + 1) items ≡ take k items ++ (x ∷ [])
+take-next items k x h e =
+    ap (λ n. take n items) (add-one k) ∙ take-suc items k x h ∙ ap (λ y. take k items ++ (y ∷ [])) (sym e)
 
-  record_length : (k : ℕ) → length (record_in kind d numbers firsts seconds k) ≡ 16
-  unfolding record_in
-  record_length k =
-      record_sized kind d (get_or numbers k 0) (word (get_or firsts k 0)) (word (get_or seconds k 0)) (word 0)
-      (word_sized (get_or firsts k 0)) (word_sized (get_or seconds k 0)) (word_sized 0)
-
-  pub records_length : (n : ℕ) → length (records_in kind d numbers firsts seconds n) ≡ 16 * n
-  unfolding records_in
-  records_length n =
-      records_sized (map (record_in kind d numbers firsts seconds) (below n))
-      (λ r m. let w = mem_of_map (record_in kind d numbers firsts seconds) (below n) r m in rw w.2 (record_length w.0))
-      ∙ ap (λ x. 16 * x) (length-map (below n) (record_in kind d numbers firsts seconds) ∙ length-below n)
-
-  -- No record yet.
-  pub none_put : (b : List ℕ) (at : ℕ) → b ≡ sets b at (records_in kind d numbers firsts seconds 0)
-  unfolding records_in
-  none_put b at = refl
-
-  records_more : (b : List ℕ) (at k : ℕ)
-      → sets (sets b at (records_in kind d numbers firsts seconds k)) (at + 16 * k) (record_in kind d numbers firsts seconds k)
-      ≡ sets b at (records_in kind d numbers firsts seconds (k + 1))
-  unfolding records_in
-  records_more b at k =
-      let q : at + 16 * k ≡ at + length (records_in kind d numbers firsts seconds k) = omega (arith, records_length k) in
-      ap (λ x. sets (sets b at (records_in kind d numbers firsts seconds k)) x (record_in kind d numbers firsts seconds k)) q
-      ∙ sets_on b at (records_in kind d numbers firsts seconds k) (record_in kind d numbers firsts seconds k)
-      ∙ ap (sets b at) (sym (joined_more (record_in kind d numbers firsts seconds) k)
-      ∙ ap (records_in kind d numbers firsts seconds) (sym (add-one k)))
-
-  -- One record more, as `put_record` stores it.
-  pub one_put : (b buf buf' : List ℕ) (at k : ℕ) → buf ≡ sets b at (records_in kind d numbers firsts seconds k)
-      → buf' ≡ sets buf (at + 16 * k) (plan_record kind d (get_or numbers k 0) (word (get_or firsts k 0))
-      (word (get_or seconds k 0)) (word 0))
-      → (length buf' ≡ length buf) × (buf' ≡ sets b at (records_in kind d numbers firsts seconds (k + 1)))
-  one_put b buf buf' at k before put = (
-    ap length put ∙ length-sets buf (at + 16 * k) (plan_record kind d (get_or numbers k 0) (word (get_or firsts k 0))
-        (word (get_or seconds k 0)) (word 0)),
-    put ∙ ap (sets buf (at + 16 * k)) (sym (record_is k))
-        ∙ ap (λ x. sets x (at + 16 * k) (record_in kind d numbers firsts seconds k)) before ∙ records_more b at k,
+module _ {A : Type 0} (row : A → Row) where
+  pub rows_length : (items : List A) → length (rows_bytes row items) ≡ 16 * length items
+  unfolding rows_bytes joined
+  rows_length [] = refl
+  rows_length (x ∷ xs) = omega (
+    arith,
+    length-append (row_bytes (row x)) (rows_bytes row xs),
+    length-row_bytes (row x),
+    rows_length xs,
   )
+
+  -- No record yet, and one more.
+  pub no_rows : rows_bytes row [] ≡ []
+  unfolding rows_bytes joined
+  no_rows = refl
+
+  pub rows_more : (items : List A) (k : ℕ) (x : A) → k < length items → x ≡ get_or items k x
+      → rows_bytes row (take (k + 1) items) ≡ rows_bytes row (take k items) ++ row_bytes (row x)
+  unfolding rows_bytes joined
+  rows_more items k x h e =
+      let shown : List A → List (List ℕ) = map (λ y. row_bytes (row y)) in
+      ap (λ l. joined (shown l)) (take-next items k x h e)
+      ∙ ap joined (map-append (λ y. row_bytes (row y)) (take k items) (x ∷ []))
+      ∙ joined_append (shown (take k items)) (row_bytes (row x) ∷ [])
+      ∙ ap (λ l. joined (shown (take k items)) ++ l) (append-nil (row_bytes (row x)))
