@@ -19,7 +19,7 @@ put_rows-requires-2 c =
     (omega (arith, rows_length (block_row c.args.desk) c.args.rows.now, rows_few F.sheet, runs_few F.sheet, F.enough))
 
 pub overflow_cast-result : goal.overflow_cast-result
-overflow_cast-result c = let F = c.requires.1 in omega (arith, rows_few F.sheet, F.few)
+overflow_cast-result c = let F = c.requires.1 in omega (arith, rows_few F.sheet, runs_few F.sheet, F.few)
 
 pub overflow_cast-result-2 : goal.overflow_cast-result-2
 overflow_cast-result-2 c = let F = c.requires.1 in omega (arith, runs_few F.sheet, F.few)
