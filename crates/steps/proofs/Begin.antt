@@ -7,6 +7,7 @@ use mathlib.Core.Path.{◌≡◌, refl, sym, ap, ◌∙◌}
 use native.Mathlib.Omega.{arith}
 use lib.Dec.{eqb}
 use lib.ListN.{length, get_or}
+use Rattle.std.specs.declared.option.Option.TheVariants.{None}
 use Rattle.rules.specs.Words.{when, below}
 use Rattle.rules.specs.Job.{Job, piece_count, piece, duration}
 use Rattle.rules.specs.Tables.{Sound, link_in}
@@ -85,18 +86,17 @@ module _ (J : Job) (sound : Sound J) (n : ℕ) (count : piece_count J ≡ n) whe
   }
 
   -- The log is empty.
-  pub begun-log : (desks : List ℕ) (l : Log) → l.runs ≡ 0 → length l.last ≡ 32 → length l.piece ≡ 512
-      → length l.from ≡ 512 → length l.until ≡ 512 → ((d : ℕ) → d < 32 → get_or l.last d 0 ≡ 512)
-      → LogHeld J n desks (λ d. 0) l
+  pub begun-log : (desks : List ℕ) (l : Log) → l.runs ≡ [] → length l.last ≡ 32
+      → ((d : ℕ) → d < 32 → get_or l.last d None ≡ None) → LogHeld J n desks (λ d. 0) l
   unfolding LastRun runs_until
-  begun-log desks l z a b c e last = record {
+  begun-log desks l z a last = record {
     last_sized = a;
-    piece_sized = b;
-    from_sized = c;
-    until_sized = e;
-    runs_are = λ d h. rw z (none_logged desks l.piece l.from l.until d);
-    lasts = λ d h. inl (last d h, rw z (none_logged desks l.piece l.from l.until d));
-    inside = λ k h. absurd (omega arith);
-    forward = λ k h. absurd (omega arith);
-    few = omega arith;
+    runs_are = λ d h. rw z (none_logged desks [] [] [] d);
+    lasts = λ d h. inl (last d h, rw z (none_logged desks [] [] [] d));
+    inside = λ k h. absurd (empty (rw z at h));
+    forward = λ k h. absurd (empty (rw z at h));
+    few = rw z (omega arith);
   }
+    where
+      empty : {k : ℕ} → k < 0 → ⊥
+      empty h = omega arith

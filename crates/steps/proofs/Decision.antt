@@ -1,34 +1,28 @@
 -- The choice over the tables is that of the plan: where the tables say how far the pieces are at moment t, every desk
 -- chooses whom it works on in slot t.
 use Prim.Native.Nat.{ℕ, ◌≤◌, ◌<◌}
+use mathlib.Core.Bool.{false}
 use mathlib.Core.List.{List}
 use mathlib.Core.Logic.{inl, inr}
 use mathlib.Core.Option.{none, some}
-use mathlib.Core.Path.{◌≡◌, sym, ap, ◌∙◌}
+use mathlib.Core.Path.{◌≡◌, refl, sym, ◌∙◌}
 use native.Mathlib.Omega.{arith}
-use borrow.Author.Tests.{ltb-true, ltb-false}
-use lib.Dec.{ltb}
 use lib.ListN.{get_or}
 use Rattle.rules.specs.Job.{Job, piece_count, desk}
 use Rattle.rules.specs.Moments.{latest}
 use Rattle.rules.specs.Urgency.{work_at, worked}
 use Rattle.laws.proofs.Hours.{always_open}
 use Rattle.laws.proofs.Signed.{dn}
-use Rattle.laws.proofs.Slots.{Waits, by_choice, chosen_choice, resting_choice, worked_chosen}
-use Rattle.laws.proofs.Words.{by_test, true_or_false}
-use Rattle.links.proofs.Counting.{counted_most}
+use Rattle.laws.proofs.Slots.{Waits, chosen_choice, resting_choice}
+use Rattle.laws.proofs.Words.{true_or_false}
 use Rattle.slots.specs.Standing.{waits_of, ready_of}
 use Rattle.slots.specs.Stretch.{at}
 use Rattle.slots.proofs.Standing.{ready_waits, waits_ready}
 use Rattle.steps.specs.Keys.{key_of}
-use Rattle.steps.specs.Choice.{View, Asks, Choice, Busy, code_of}
-use Rattle.steps.proofs.Moved.{Desks, not_moved, moved}
+use Rattle.steps.specs.Choice.{View, Asks, Best, Choice, Busy}
+use Rattle.steps.specs.Opening.{Among}
+use Rattle.steps.proofs.Moved.{Desks, moved_by, not_moved, moved}
 use Rattle.steps.proofs.Precedence.{key_sooner}
-
--- No more desks work than there are.
-pub busy_few : (nobody count : ℕ) (chosen busy : List ℕ) → Busy nobody count chosen busy → count ≤ 32
-busy_few nobody count chosen busy b =
-    omega (arith, b.as_many, counted_most (λ d. ltb (get_or chosen d 0) nobody) 32)
 
 -- The view shows the job's n pieces as they are at its moment, and S are the unfinished ones that wait for none.
 pub record Shown (J : Job) (n : ℕ) (v : View) (S : ℕ → Type 0) : Type 0 where
@@ -66,13 +60,10 @@ module _ (J : Job) (n : ℕ) (v : View) (S : ℕ → Type 0) (s : Shown J n v S)
       )
 
   -- Who goes first of those that ask is who the desk works on.
-  pub coded : (d x : ℕ) → Choice v S d x → x ≡ code_of (worked J d v.moment)
-  unfolding worked code_of Choice
-  coded d x (inl w) =
-      w.0 ∙ ap code_of (sym (resting_choice J (work_at J v.moment) d v.moment
-      (λ i u. let a = waits_asks d i u in w.1 i a.0 a.1)))
-  coded d x (inr b) =
-      ap code_of (sym (chosen_choice J (work_at J v.moment) d v.moment x (record {
+  best_works : (d x : ℕ) → Best v S d x → worked J d v.moment ≡ some x
+  unfolding worked
+  best_works d x b =
+      chosen_choice J (work_at J v.moment) d v.moment x (record {
         opened = always_open J d v.moment;
         waits = asks_waits d x b.inside b.asks;
         first = λ j u ne.
@@ -81,37 +72,32 @@ module _ (J : Job) (n : ℕ) (v : View) (S : ℕ → Type 0) (s : Shown J n v S)
             let hj = s.inside j a.0 in
             key_sooner J x j (omega (arith, hx, s.few)) (omega (arith, hj, s.few)) (s.not_far x hx) (s.not_far j hj) ne
             (rw (s.key_is x hx, s.key_is j hj) at (b.first j a.0 a.1));
-      })))
+      })
+
+  nobody_rests : (d : ℕ) → ((j : ℕ) → S j → Asks v S d j → ⊥) → worked J d v.moment ≡ none
+  unfolding worked
+  nobody_rests d w =
+      resting_choice J (work_at J v.moment) d v.moment (λ i u. let a = waits_asks d i u in w i a.0 a.1)
 
   -- The table of the desks that work has those that do, and the other desks rest.
-  module _ (count : ℕ) (chosen busy : List ℕ) (c : (d : ℕ) → d < 32 → Choice v S d (get_or chosen d 0))
-      (b : Busy 256 count chosen busy) where
-    someone_works : (d : ℕ) → d < 32 → get_or chosen d 0 < 256 → worked J d v.moment ≡ some (get_or chosen d 0)
-    unfolding code_of
-    someone_works d h l = by_choice (worked J d v.moment)
-        (λ q. absurd (omega (arith, coded d (get_or chosen d 0) (c d h) ∙ ap code_of q)))
-        (λ i q. q ∙ ap some (sym (coded d (get_or chosen d 0) (c d h) ∙ ap code_of q)))
+  module _ (count : ℕ) (chosen busy : List ℕ) (c : (d : ℕ) → d < 32 → Choice v S count chosen busy d)
+      (b : Busy count chosen busy) where
+    someone_works : (d : ℕ) → Among busy count d → Choice v S count chosen busy d
+        → worked J d v.moment ≡ some (get_or chosen d 0)
+    unfolding Choice
+    someone_works d m (inl w) = best_works d (get_or chosen d 0) w.1
+    someone_works d m (inr w) = absurd (w.0 m)
 
-    nobody_rests : (d : ℕ) → d < 32 → 256 ≤ get_or chosen d 0 → worked J d v.moment ≡ none
-    unfolding code_of
-    nobody_rests d h l = by_choice (worked J d v.moment)
-        (λ q. q)
-        (λ i q. absurd (omega (
-          arith,
-          coded d (get_or chosen d 0) (c d h) ∙ ap code_of q,
-          (worked_chosen J d v.moment i q).waits.inside,
-          s.count,
-          s.few,
-        )))
+    others_rest : (d : ℕ) → moved_by busy count d ≡ false → Choice v S count chosen busy d → worked J d v.moment ≡ none
+    unfolding Choice
+    others_rest d m (inl w) = true_or_false (sym (rw w.0.2 at (moved busy count w.0.0 w.0.1)) ∙ m)
+    others_rest d m (inr w) = nobody_rests d w.1
 
     pub desks_are : Desks J v.moment count chosen busy
     desks_are = record {
       desk_most = b.desk_most;
-      works = λ k h. someone_works (get_or busy k 0) (b.desk_most k h) (b.someone k h);
+      works = λ k h. someone_works (get_or busy k 0) (k, h, refl) (c (get_or busy k 0) (b.desk_most k h));
       new = λ k h. not_moved busy k (get_or busy k 0)
           (λ q l z. let y : q ≡ k = b.once q k (omega arith) h z in omega arith);
-      rest = λ d h m. by_test (ltb (get_or chosen d 0) 256)
-          (λ e. let w = b.everyone d h (ltb-true (get_or chosen d 0) 256 e) in
-          true_or_false (sym (moved busy count w.0 w.1) ∙ rw w.2 m))
-          (λ e. nobody_rests d h (ltb-false (get_or chosen d 0) 256 e));
+      rest = λ d h m. others_rest d m (c d h);
     }

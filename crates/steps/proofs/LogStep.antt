@@ -1,33 +1,26 @@
 -- The log over a step: with every desk moved on its runs are the plan's up to the next moment.
 use Prim.Native.Nat.{ℕ, zero, suc, ◌+◌, ◌≤◌, ◌<◌}
-use mathlib.Core.Bool.{Bool, true, false, ◌&&◌}
+use mathlib.Core.Bool.{Bool, false}
 use mathlib.Core.List.{List}
 use mathlib.Core.Logic.{inl, inr}
 use mathlib.Core.Option.{some}
 use mathlib.Core.Path.{◌≡◌, sym, ◌∙◌}
 use native.Mathlib.Omega.{arith}
-use borrow.Author.Tests.{ltb-true, lt-ltb}
-use lib.Dec.{ltb, eqb}
-use lib.ListN.{get_or}
+use borrow.Author.Tests.{lt-ltb}
+use lib.ListN.{length, get_or}
+use Rattle.std.specs.declared.option.Option.TheVariants.{Some, None}
 use Rattle.rules.specs.Words.{when}
 use Rattle.rules.specs.Job.{Job, piece_count, desk}
 use Rattle.rules.specs.Tables.{Sound}
 use Rattle.rules.specs.Urgency.{worked}
-use Rattle.laws.proofs.Words.{by_test, and_true}
+use Rattle.laws.proofs.Words.{by_test}
 use Rattle.slots.specs.Growth.{goes_on_at}
 use Rattle.slots.specs.Stretch.{Stretch}
-use Rattle.steps.specs.Log.{Log, stays, lengthened, note_on, note_to, run_at}
+use Rattle.steps.specs.Log.{Log, stays, begun_if, note_at, note_on, note_to}
 use Rattle.steps.proofs.LogHeld.{Placed, LastRun, LogHeld, all_held}
-use Rattle.steps.proofs.LogGoesOn.{stays_goes, goes_on_held}
+use Rattle.steps.proofs.LogGoesOn.{run_in, stays_goes, goes_on_held}
 use Rattle.steps.proofs.LogBegins.{room, begins_held}
 use Rattle.steps.proofs.Moved.{also, moment_of, moved_by, Desks}
-use Rattle.steps.proofs.Scores.{scores_most}
-
--- A run goes on only where there is one.
-stays_place : (piece until : List ℕ) (k i t : ℕ) → stays piece until k i t ≡ true → k < 512
-unfolding stays
-stays_place piece until k i t e =
-    ltb-true k 512 (and_true (ltb k 512) _ (and_true (ltb k 512 && eqb (get_or piece k 0) i) _ e).0).0
 
 module _ (J : Job) (sound : Sound J) (n : ℕ) (desks : List ℕ) (t u k : ℕ) (e : t + k ≡ u) (p : 0 < k) (s : Stretch J t k)
     (count : piece_count J ≡ n) (small : n ≤ 256) (desk_is : (i : ℕ) → i < n → desk J i ≡ get_or desks i 0) where
@@ -37,34 +30,38 @@ module _ (J : Job) (sound : Sound J) (n : ℕ) (desks : List ℕ) (t u k : ℕ) 
   -- Desk d works on piece i, whose run the test says goes on, or does not.
   module _ (M : ℕ → Bool) (d : ℕ) (new : M d ≡ false) (i : ℕ) (b : d < 32) (q : worked J d t ≡ some i) (l : Log)
       (h : Then M l) where
-    abbrev test : Bool
-    test = stays l.piece l.until (get_or l.last d 0) i t
-
-    in_log : (w : Placed desks l d) → get_or l.last d 0 < 512
-    in_log w = omega (arith, w.below, h.few, scores_most J n (moment_of t u M))
-
-    goes : test ≡ true → LastRun desks l d → Then (also M d) (lengthened t u (get_or l.last d 0) l)
-    unfolding LastRun
-    goes y (inl w) = absurd (omega (arith, stays_place l.piece l.until (get_or l.last d 0) i t y, w.0))
-    goes y (inr w) =
-        goes_on_held J sound n desks t u k e p s count small desk_is M d new i b q l h w
-        (sym (stays_goes l.piece l.from l.until (get_or l.last d 0) i t (in_log w)) ∙ y)
-
-    anew : test ≡ false → (w : Placed desks l d)
-        → goes_on_at (run_at l.piece l.from l.until (get_or l.last d 0)) i t ≡ false
-    anew y w = sym (stays_goes l.piece l.from l.until (get_or l.last d 0) i t (in_log w)) ∙ y
-
-    note_desk : Then (also M d) (note_on t u d i l)
-    unfolding note_on
-    note_desk = by_test test
-        (λ y. rw (y, when) (goes y (h.lasts d b)))
-        (λ y. rw (
-          y,
-          lt-ltb l.runs 512
-              (room J sound n desks t u k e p s count small desk_is M d new i b q l h (anew y)),
+    -- Another run begins, and there is room for it.
+    anew : ((w : Placed desks l d) → goes_on_at (run_in l.runs w.place) i t ≡ false)
+        → Then (also M d) (begun_if t u d i l)
+    unfolding when
+    anew a =
+        rw (
+          lt-ltb (length l.runs) 512 (room J sound n desks t u k e p s count small desk_is M d new i b q l h a),
           when,
         )
-        (begins_held J sound n desks t u k e p s count small desk_is M d new i b q l h (anew y)))
+        (begins_held J sound n desks t u k e p s count small desk_is M d new i b q l h a)
+
+    noted : LastRun desks l d → Then (also M d) (note_on t u d i l)
+    unfolding LastRun note_on note_at when
+    noted (inl y) = rw y.0 (anew (λ w. absurd (nowhere (sym y.0 ∙ w.is))))
+      where
+        nowhere : {k : ℕ} → None ≡ Some k → ⊥
+        nowhere e = cc
+    noted (inr w) = rw w.is (by_test (stays l.runs w.place i t)
+        (λ y. rw (y, when) (goes_on_held J sound n desks t u k e p s count small desk_is M d new i b q l h w
+        (sym (stays_goes l.runs w.place i t w.below) ∙ y)))
+        (λ y. rw (y, when) (anew (λ v. same v y))))
+      where
+        same : (v : Placed desks l d) → stays l.runs w.place i t ≡ false → goes_on_at (run_in l.runs v.place) i t ≡ false
+        same v y =
+            let z : v.place ≡ w.place = one_place (sym v.is ∙ w.is) in
+            rw z (sym (stays_goes l.runs w.place i t w.below) ∙ y)
+          where
+            one_place : {j k : ℕ} → Some j ≡ Some k → j ≡ k
+            one_place e = cc
+
+    note_desk : Then (also M d) (note_on t u d i l)
+    note_desk = noted (h.lasts d b)
 
   -- The first c of the desks that work moved on.
   module _ (all : ℕ) (chosen busy : List ℕ) (D : Desks J t all chosen busy) where

@@ -17,7 +17,6 @@ use Rattle.rules.specs.declared.Link.{Link}
 use Rattle.laws.proofs.Sound.{link_fit}
 use Rattle.laws.proofs.Words.{by_test, mem_map, below_mem}
 use Rattle.slots.specs.Standing.{links_to, asked_by}
-use Rattle.slots.specs.Stretch.{at}
 use Rattle.laws.proofs.Delay.{delay_is}
 use Rattle.steps.specs.Handover.{Ties, Waiting, delay_of, passed, pass_from}
 use Rattle.steps.proofs.Tables.{below_more}

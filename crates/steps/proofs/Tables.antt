@@ -5,7 +5,7 @@ use mathlib.Core.Path.{◌≡◌, refl, ap, ◌∙◌}
 use native.Mathlib.Omega.{arith}
 use lib.ListN.{get_or, length-map}
 use Rattle.rules.specs.Words.{row, below}
-use Rattle.rules.specs.Job.{Job, piece, desk, duration, no_piece}
+use Rattle.rules.specs.Job.{Job, piece, no_piece}
 use Rattle.rules.specs.Moments.{latest}
 use Rattle.rules.specs.Tables.{piece_in, pieces_in, links_in, job_in}
 use Rattle.laws.proofs.Words.{length-below, get_or-below}

@@ -1,8 +1,6 @@
 -- One decision over the tables: who every desk works on from a moment on, and the next moment at which something is
 -- decided anew. 256 stands for no piece, and 4,294,967,295 for no later moment.
-use Rattle.std.specs.Prelude.{ℕ, zero, suc, ◌+◌, ◌≤◌, ◌<◌, min, List, ◌⊎◌, ◌≡◌, ltb, length, get_or}
-use Rattle.std.proofs.Math.Option.{Option, none, some}
-use Rattle.links.specs.Links.{counted}
+use Rattle.std.specs.Prelude.{ℕ, zero, suc, ◌+◌, ◌≤◌, ◌<◌, min, List, ◌⊎◌, ◌≡◌, length, get_or}
 use Rattle.steps.specs.Opening.{Among}
 
 -- What a decision looks at: the moment, and for each piece its desk, its key, the slots left of it, and from when on it
@@ -33,9 +31,11 @@ module _ (v : View) (S : ℕ → Type 0) where
     pub asks : Asks d x
     pub first : (j : ℕ) → S j → Asks d j → get_or v.keys x 0 ≤ get_or v.keys j 0
 
-  -- The choice x of desk d.
-  unfoldable pub Choice : ℕ → ℕ → Type 0
-  Choice d x = ((x ≡ 256) × ((j : ℕ) → S j → Asks d j → ⊥)) ⊎ Best d x
+  -- The choice of desk d, the desks that work being those in the first `count` places of `busy`: it is one of them, and
+  -- `chosen` has its piece; or it rests, since nobody asks for it.
+  unfoldable pub Choice : ℕ → List ℕ → List ℕ → ℕ → Type 0
+  Choice count chosen busy d =
+      (Among busy count d × Best d (get_or chosen d 0)) ⊎ ((Among busy count d → ⊥) × ((j : ℕ) → S j → Asks d j → ⊥))
 
   -- The first later moment at which one of them becomes ready.
   pub record Later (next : ℕ) : Type 0 where
@@ -44,16 +44,14 @@ module _ (v : View) (S : ℕ → Type 0) where
     pub counts : (j : ℕ) → S j → v.moment < get_or v.ready j 0 → next ≤ get_or v.ready j 0
     pub from : (next ≡ never) ⊎ ((j : ℕ) × S j)
 
--- The desks that chose, each once, in the first `count` places of a table. A number stands for nobody, and all smaller
--- ones are choices. The table has a place more than there are desks: one is noted before it is known whether it counts.
-pub record Busy (nobody count : ℕ) (chosen busy : List ℕ) : Type 0 where
+-- The desks that work, each once, in the first `count` places of a table. It has a place more than there are desks: one is
+-- noted before it is known whether it counts.
+pub record Busy (count : ℕ) (chosen busy : List ℕ) : Type 0 where
   pub chosen_sized : length chosen ≡ 32
   pub busy_sized : length busy ≡ 33
-  pub as_many : counted (λ d. ltb (get_or chosen d 0) nobody) 32 ≡ count
+  pub few : count ≤ 32
   pub desk_most : (k : ℕ) → k < count → get_or busy k 0 < 32
-  pub someone : (k : ℕ) → k < count → get_or chosen (get_or busy k 0) 0 < nobody
   pub once : (p q : ℕ) → p < count → q < count → get_or busy p 0 ≡ get_or busy q 0 → p ≡ q
-  pub everyone : (d : ℕ) → d < 32 → get_or chosen d 0 < nobody → Among busy count d
 
 -- The choice of the k-th of the desks that work.
 abbrev pub whom : List ℕ → List ℕ → ℕ → ℕ
@@ -66,8 +64,8 @@ end_next t left f (suc k) next = min (end_next t left f k next) (t + get_or left
 
 -- The open pieces looked at: every desk's choice, the desks that work, and the first moment at which one becomes ready.
 pub record LookedAt (v : View) (S : ℕ → Type 0) (count : ℕ) (chosen busy : List ℕ) (next : ℕ) : Type 0 where
-  pub choices : (d : ℕ) → d < 32 → Choice v S d (get_or chosen d 0)
-  pub working : Busy 256 count chosen busy
+  pub choices : (d : ℕ) → d < 32 → Choice v S count chosen busy d
+  pub working : Busy count chosen busy
   pub later : Later v S next
 
 -- The whole decision: the next moment is that one, or an end before it.
@@ -75,8 +73,3 @@ pub record Decided (v : View) (S : ℕ → Type 0) (count : ℕ) (chosen busy : 
   pub soon : ℕ
   pub looked_at : LookedAt v S count chosen busy soon
   pub next_is : next ≡ end_next v.moment v.left (whom chosen busy) count soon
-
--- The number that stands for who a desk works on.
-unfoldable pub code_of : Option ℕ → ℕ
-code_of none = 256
-code_of (some i) = i
