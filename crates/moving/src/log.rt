@@ -1,49 +1,61 @@
-// The log of the runs, in the order in which they begin. `last` has the place of each desk's last run in it, 512
-// where the desk has none.
-ghost use Rattle.std.specs.Prelude.{◌≡◌, ◌<◌};
+// The log of the runs, in the order in which they begin: a list that the caller lends, and for each desk the place of its
+// last run in it.
+ghost use Rattle.std.specs.Prelude.{◌≡◌, ◌<◌, None, replicate, get_or};
+ghost use Rattle.moving.specs.LastRuns.{goes_on_from};
 ghost use Rattle.steps.specs.Log.{log, stays, note_on};
 
-// The run at place k of the log goes on with piece i at moment t.
-fn goes_on(k: usize, i: usize, t: u32, piece: &[u16; 512], until: &[u32; 512]) -> bool
-    ensures { result ≡ stays piece.now until.now k i t }
-{
-    if 511 < k {
-        return false;
-    }
-    if numbers::place(piece[k]) == i {
-        return until[k] == t;
-    }
-    false
+use arrayvec::ArrayVec;
+use rules::Run;
+
+/// For each desk the place of its last run in the log, and None where it has none.
+#[derive(Clone, Copy, Debug, PartialEq, Eq)]
+pub struct LastRuns {
+    pub places: [Option<u16>; 32],
 }
 
-// Desk d works on piece i from moment t until moment `next`: its last run goes on, or a run begins.
-pub fn note(
-    d: usize,
-    i: usize,
-    t: u32,
-    next: u32,
-    runs: usize,
-    last: &mut [usize; 32],
-    piece: &mut [u16; 512],
-    from: &mut [u32; 512],
-    until: &mut [u32; 512],
-) -> usize
-    requires { (d < 32) × (i < 256) }
-    ensures { log result last.new piece.new from.new until.new
-        ≡ note_on t next d i
-        (log runs last.old piece.old from.old until.old) }
+// The run at a place of the log is of the same piece, and ends where this run begins.
+#[tactic(auto, unfolding(steps::specs::Log::stays))]
+fn goes_on(runs: &[Run], place: usize, run: Run) -> bool
+    ensures { result ≡ stays runs.now place run.piece run.from }
 {
-    let k = last[d];
-    if goes_on(k, i, t, piece, until) {
-        until[k] = next;
-        return runs;
+    place < runs.len() && runs[place].piece == run.piece && runs[place].until == run.from
+}
+
+impl LastRuns {
+    /// No desk has a run yet.
+    pub fn new() -> LastRuns
+        ensures { result.places ≡ replicate 32 None }
+    {
+        LastRuns { places: [None; 32] }
     }
-    if 511 < runs {
-        return runs;
+
+    // The place of the desk's last run, if that is of the same piece and ends where this run begins.
+    fn joined(&self, runs: &[Run], desk: usize, run: Run) -> Option<usize>
+        requires { desk < 32 }
+        ensures { result ≡ goes_on_from runs.now (get_or self.now.places desk None) run }
+    {
+        let place = usize::from(self.places[desk]?);
+        if goes_on(runs, place, run) {
+            Some(place)
+        } else {
+            None
+        }
     }
-    piece[runs] = i as u16;
-    from[runs] = t;
-    until[runs] = next;
-    last[d] = runs;
-    runs + 1
+
+    /// The desk works a run: its last run goes on, or this one is put behind the others.
+    pub fn note(&mut self, runs: &mut ArrayVec<Run, 512>, desk: usize, run: Run)
+        requires { desk < 32 }
+        ensures { log runs.new.items self.new.places
+            ≡ note_on run.from run.until desk run.piece (log runs.old.items self.old.places) }
+    {
+        match self.joined(runs, desk, run) {
+            Some(place) => runs[place].until = run.until,
+            None => {
+                if !runs.is_full() {
+                    self.places[desk] = Some(runs.len() as u16);
+                    runs.push(run);
+                }
+            }
+        }
+    }
 }
