@@ -8,7 +8,7 @@ use arrayvec::ArrayVec;
 use rules::Run;
 
 /// For each desk the place of its last run in the log, and None where it has none.
-#[derive(Clone, Copy, Debug, PartialEq, Eq)]
+#[derive(Drop)]
 pub struct LastRuns {
     pub places: [Option<u16>; 32],
 }
