@@ -1,5 +1,5 @@
 -- The ends of the pieces that are worked on, one desk more; and the whole decision out of its parts.
-use Prim.Native.Nat.{ℕ, ◌+◌, ◌<◌, min}
+use Prim.Native.Nat.{ℕ, ◌+◌, min}
 use mathlib.Core.List.{List}
 use mathlib.Core.Path.{◌≡◌, sym, ◌∙◌}
 use native.Mathlib.Numerals.{add-one}
@@ -16,15 +16,15 @@ unfolding end_next
 end_more t left f q next m r a b = rw (add-one q, ← a) b
 
 -- The least keys found, the pieces named by them, and the ends of those pieces.
-pub decided : (v : View) (opened : ℕ) (table : List ℕ) → Lookable opened table v.desks v.keys
-    → (count : ℕ) (best busy chosen : List ℕ) (soon : ℕ) → Looked v (Among table opened) count best busy soon
-    → length chosen ≡ 32 → ((d : ℕ) → d < 32 → get_or chosen d 0 ≡ 256) → (pieces : List ℕ) (next : ℕ)
+pub decided : (v : View) (n : ℕ) (opened : List ℕ) → Lookable n opened v.desks v.keys
+    → (count : ℕ) (best busy chosen : List ℕ) (soon : ℕ) → Looked v (Among opened (length opened)) count best busy soon
+    → length chosen ≡ 32 → (pieces : List ℕ) (next : ℕ)
     → pieces ≡ named best busy count chosen
     → next ≡ end_next v.moment v.left (λ q. piece_of (whom best busy q)) count soon
-    → Decided v (Among table opened) count pieces busy next
-decided v opened table o count best busy chosen soon l sized clear pieces next p e = rw p (record {
+    → Decided v (Among opened (length opened)) count pieces busy next
+decided v n opened o count best busy chosen soon l sized pieces next p e = rw p (record {
   soon = soon;
-  looked_at = looked_named count best busy l.working chosen sized clear v (Among table opened) soon
+  looked_at = looked_named count best busy l.working chosen sized v (Among opened (length opened)) soon
       (λ x m. rw m.2 at (o.telling m.0 m.1))
       (λ x m. rw m.2 at (o.own_key m.0 m.1))
       l;

@@ -9,10 +9,10 @@ use lib.Dec.{ltb, eqb}
 use lib.ListN.{length, get_or, set}
 use Rattle.rules.specs.Words.{when}
 use Rattle.laws.proofs.Words.{by_test, when_true, when_false}
-use Rattle.steps.specs.Choice.{View, never, Asks, Best, Busy}
+use Rattle.steps.specs.Choice.{View, never, Asks, Best}
 use Rattle.steps.specs.Keys.{no_key}
 use Rattle.steps.specs.Opening.{Among}
-use Rattle.deciding.specs.Look.{Least, Looked, Picks, picks, offered}
+use Rattle.deciding.specs.Look.{Asked, Least, Looked, Picks, picks, offered}
 use Rattle.deciding.proofs.Desks.{at-desk, at_other, busy_none, busy_again, busy_more}
 
 -- None looked at.
@@ -124,7 +124,7 @@ module _ (v : View) (S T : ℕ → Type 0) (up : (j : ℕ) → S j → T j) wher
         small = omega (arith, keyed i own)
 
         still_working : (r : ℕ) → r ≡ when (eqb (get_or best d 0) no_key) (count + 1) count
-            → Busy no_key r (set best d lesser) (set busy count d)
+            → Asked no_key r (set best d lesser) (set busy count d)
         unfolding when
         still_working r q = by_test (eqb (get_or best d 0) no_key)
             (λ e. rw (q ∙ when_true _ _ _ e)

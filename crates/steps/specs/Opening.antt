@@ -84,11 +84,11 @@ spent_to chosen busy left U zero j = U j
 spent_to chosen busy left U (suc k) j =
     when (eqb j (get_or chosen (get_or busy k 0) 0)) (unfinished left j) (spent_to chosen busy left U k j)
 
--- A look at the first `opened` of the table stays inside the tables of the pieces and of the desks, and the last eight bits
--- of each key that it meets tell whose it is.
-pub record Lookable (opened : ℕ) (table desks keys : List ℕ) : Type 0 where
-  pub few : opened ≤ 256
-  pub small : (q : ℕ) → q < opened → get_or table q 0 < 256
-  pub desk_most : (q : ℕ) → q < opened → get_or desks (get_or table q 0) 0 < 32
-  pub telling : (q : ℕ) → q < opened → get_or keys (get_or table q 0) 0 % 256 ≡ get_or table q 0
-  pub own_key : (q : ℕ) → q < opened → get_or keys (get_or table q 0) 0 < no_key
+-- A look at open pieces stays inside the tables of the n pieces and of the desks, and the last eight bits of each key that
+-- it meets tell whose it is.
+pub record Lookable (n : ℕ) (opened desks keys : List ℕ) : Type 0 where
+  pub few : n ≤ 256
+  pub small : (q : ℕ) → q < length opened → get_or opened q 0 < n
+  pub desk_most : (q : ℕ) → q < length opened → get_or desks (get_or opened q 0) 0 < 32
+  pub telling : (q : ℕ) → q < length opened → get_or keys (get_or opened q 0) 0 % 256 ≡ get_or opened q 0
+  pub own_key : (q : ℕ) → q < length opened → get_or keys (get_or opened q 0) 0 < no_key

@@ -1,72 +1,76 @@
--- `look_at` looks at the open pieces one after the other. The loop's invariant: the least keys, the desks that work and the
--- next moment are those of the pieces in the first k places.
-use Prim.Native.Nat.{ℕ, ◌+◌, ◌<◌}
-use mathlib.Core.List.{List}
-use mathlib.Core.Path.{◌≡◌, refl}
-use native.Mathlib.Omega.{arith}
-use lib.ListN.{get_or}
+-- `look_at` looks at the open pieces one after the other: a piece is ready later, or its key is put up for its desk.
+use Rattle.std.specs.Prelude.{ℕ, ◌+◌, List, ◌≡◌, length, get_or}
+use Rattle.std.proofs.Common.{refl, sym, ◌∙◌, arith}
+use Rattle.rules.specs.Tables.{desks_of}
+use Rattle.laws.proofs.Columns.{get_or-desks}
 use Rattle.steps.specs.Choice.{View, view}
 use Rattle.steps.specs.Keys.{no_key}
 use Rattle.steps.specs.Opening.{Among}
-use Rattle.steps.proofs.Decision.{busy_few}
+use Rattle.steps.specs.States.{keys_of, ready_of, no_state}
+use Rattle.steps.proofs.States.{get_or-keys, get_or-ready}
+use Rattle.deciding.proofs.Desks.{busy_few}
 use Rattle.deciding.proofs.Looking.{looked_none, looked_later, looked_offered}
 use Rattle.deciding.proofs.Places.{among_more, among_last, among_split}
-use Rattle.deciding.proofs.look_at.Goals.{In-loop-k, Start}
+use Rattle.deciding.proofs.look_at.Goals.{In-loop-i, Start}
 use Rattle.deciding.proofs.look_at.Goals as goal
 
 -- What the function sees.
 abbrev seen : Start → List ℕ → View
-seen s left = let a = s.args in view a.t a.desks.now a.keys.now left a.ready.now
+seen s left =
+    let a = s.args in view a.t (desks_of a.pieces.now) (keys_of a.states.now) left (ready_of a.states.now)
 
-pub loop-k-init : goal.loop-k-init
-loop-k-init c =
-    let a = c.args in (
-      omega arith,
-      λ left. looked_none (seen c left) a.table.now a.best.now a.busy.now c.requires.busy_len.1 c.requires.busy_len.0
-          c.requires.busy_len.2,
-    )
+pub loop-i-init : goal.loop-i-init
+loop-i-init c left =
+    let a = c.args in
+    looked_none (seen (goal.at.loop-i-init c).Start left) a.opened.now a.best.now a.busy.now c.told-best c.told-busy c.requires.clear
 
--- The piece that a turn looks at, which stands inside the tables.
-abbrev piece : In-loop-k → ℕ
-piece c = get_or c.args.table.now c.loop-k.k 0
+-- The piece that a turn looks at.
+abbrev piece : In-loop-i → ℕ
+piece c = get_or c.args.opened.now c.loop-i.i-index 0
 
-desk_in : (c : In-loop-k) → get_or c.args.desks.now (piece c) 0 < 32
-desk_in c = c.requires.lookable.desk_most c.loop-k.k c.loop-k-test.true
+ready_is : (c : In-loop-i) → (get_or c.args.states.now (piece c) no_state).ready ≡ get_or (ready_of c.args.states.now) (piece c) 0
+ready_is c = sym (get_or-ready c.args.states.now (piece c))
 
-pub loop-k-preserved-then-t-ready : goal.loop-k-preserved-then-t-ready
-loop-k-preserved-then-t-ready c =
-    let start = (goal.at.loop-k-preserved-then-t-ready c).Start in
-    let turn = (goal.at.loop-k-preserved-then-t-ready c).In-loop-k in
-    let l = c.loop-k in
-    let table = c.args.table.now in (
-      omega arith,
-      λ left. looked_later (seen start left) (Among table l.k) (Among table (l.k + 1))
-          (among_more table l.k) (piece turn) (among_last table l.k) (among_split table l.k)
-          l.count l.best l.busy l.next c.lesser-next.result c.if-t-ready.true c.lesser-next.ensures
-          (l.invariant.1 left),
-    )
+pub loop-i-preserved-then-t-state : goal.loop-i-preserved-then-t-state
+loop-i-preserved-then-t-state c left =
+    let start = (goal.at.loop-i-preserved-then-t-state c).Start in
+    let turn = (goal.at.loop-i-preserved-then-t-state c).In-loop-i in
+    let l = c.loop-i in
+    let table = c.args.opened.now in
+    let late = rw (c.from-i.ensures, ready_is turn) at c.if-t-state.true in
+    let least = rw (c.from-i.ensures, ready_is turn) at c.min-next.ensures in
+    looked_later (seen start left) (Among table l.i-index) (Among table (l.i-index + 1)) (among_more table l.i-index)
+    (piece turn) (among_last table l.i-index) (among_split table l.i-index) l.count l.best l.busy l.next _ late least
+    (l.invariant left)
 
 pub offer-count-requires : goal.offer-count-requires
 offer-count-requires c =
-    let l = c.loop-k in (
-      desk_in (goal.at.offer-count-requires c).In-loop-k,
-      omega (arith, busy_few no_key l.count l.best l.busy (l.invariant.1 c.args.table.now).working),
+    let turn = (goal.at.offer-count-requires c).In-loop-i in
+    let l = c.loop-i in
+    let desk : c.from.result ≡ get_or (desks_of c.args.pieces.now) (piece turn) 0 =
+    rw c.from-i.ensures at c.from.ensures ∙ sym (get_or-desks c.args.pieces.now (piece turn)) in (
+      rw desk (c.requires.lookable.desk_most l.i-index c.loop-i-test.true),
+      omega (arith, busy_few no_key l.count l.best l.busy (l.invariant c.args.opened.now).working),
     )
 
-pub loop-k-preserved : goal.loop-k-preserved
-loop-k-preserved c =
-    let start = (goal.at.loop-k-preserved c).Start in
-    let turn = (goal.at.loop-k-preserved c).In-loop-k in
-    let l = c.loop-k in
-    let table = c.args.table.now in (
-      omega arith,
-      λ left. looked_offered (seen start left) (Among table l.k) (Among table (l.k + 1))
-          (among_more table l.k) (piece turn) (among_last table l.k) (among_split table l.k)
-          (get_or c.args.desks.now (piece turn) 0) (desk_in turn) refl c.if-t-ready.false
-          (λ j m. rw m.2 at (c.requires.lookable.own_key m.0 (omega (arith, m.1, c.loop-k-test.true))))
-          l.count l.best l.busy l.next (l.invariant.1 left) _ c.offer-count.ensures,
-    )
+pub loop-i-preserved : goal.loop-i-preserved
+loop-i-preserved c left =
+    let start = (goal.at.loop-i-preserved c).Start in
+    let turn = (goal.at.loop-i-preserved c).In-loop-i in
+    let l = c.loop-i in
+    let table = c.args.opened.now in
+    let desk : c.from.result ≡ get_or (desks_of c.args.pieces.now) (piece turn) 0 =
+    rw c.from-i.ensures at c.from.ensures ∙ sym (get_or-desks c.args.pieces.now (piece turn)) in
+    let ready = rw (c.from-i.ensures, ready_is turn) at c.if-t-state.false in
+    let put = rw (c.from-i.ensures, ← (get_or-keys c.args.states.now (piece turn)), desk) at c.offer-count.ensures in
+    looked_offered (seen start left) (Among table l.i-index) (Among table (l.i-index + 1)) (among_more table l.i-index)
+    (piece turn) (among_last table l.i-index) (among_split table l.i-index)
+    (get_or (desks_of c.args.pieces.now) (piece turn) 0)
+    (c.requires.lookable.desk_most l.i-index c.loop-i-test.true) refl ready
+    (λ j m. rw m.2 at (c.requires.lookable.own_key m.0 (omega (arith, m.1, c.loop-i-test.true))))
+    l.count l.best l.busy l.next (l.invariant left) _ put
 
 pub returns : goal.returns
 returns c =
-    let e : c.loop-k.k ≡ c.args.opened = omega arith in rw e at c.loop-k.invariant.1
+    let e : c.loop-i.i-index ≡ length c.args.opened.now = omega (arith, c.loop-i.auto.i-index-end) in
+    rw e at c.loop-i.invariant
