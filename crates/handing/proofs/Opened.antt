@@ -7,12 +7,14 @@ use mathlib.Core.Path.{◌≡◌, sym, ap, ◌∙◌}
 use native.Mathlib.Omega.{arith}
 use borrow.Author.Tests.{eqb-true, eqb-false, eq-eqb, ne_eqb, ltb-true, ltb-false}
 use lib.Dec.{ltb, eqb}
-use lib.ListN.{get_or, set, length-set}
+use lib.ListN.{length, get_or, set, length-set}
 use lib.Seq.{get_or-set_same, get_or-set_other}
 use Rattle.laws.proofs.Words.{by_test}
 use Rattle.links.specs.Links.{counted}
 use Rattle.links.proofs.Counting.{counted_same, counted_one, counted_most}
-use Rattle.steps.specs.Opening.{Among, Opening, Room, Opens}
+use Rattle.links.specs.Queue.{Queue}
+use Rattle.links.proofs.QueueLaws.{queue_most}
+use Rattle.steps.specs.Opening.{Among, Opening, Room, Opens, Markable}
 
 -- No more are open than there are pieces.
 pub opened_few : (n opened : ℕ) (table place : List ℕ) (U : ℕ → Bool) (waits : List ℕ)
@@ -134,6 +136,58 @@ module _ (n opened a : ℕ) (table place : List ℕ) (U : ℕ → Bool) (waits :
 
     pub opened_stays : (j : ℕ) → Among table opened j → Among (set table opened a) (opened + 1) j
     opened_stays j m = (m.0, omega (arith, m.1), earlier m.0 m.1 ∙ m.2)
+
+-- What link k opens, by the piece after it and what that waits for now.
+module _ (m opened : ℕ) (afters table place waits : List ℕ) (a w : ℕ) (is : a ≡ get_or afters m 0)
+    (fewer_is : w ≡ get_or waits a 0 - 1) where
+  pub link_waits : (get_or waits a 0 ≡ 1 → ⊥)
+      → Opens (m + 1) afters opened table place waits opened table place (set waits a w)
+  link_waits ne = record {
+    opening = λ n U few one o. rw fewer_is
+        (waits_on n opened a table place U waits o few (rw is (one m (omega arith))) ne);
+    stays = λ j q. q;
+  }
+
+  pub link_opens : Room (m + 1) afters opened table place waits → get_or waits a 0 ≡ 1
+      → Opens (m + 1) afters opened table place waits (opened + 1) (set table opened a) (set place a opened) (set waits a w)
+  link_opens r e = record {
+    opening = λ n U few one o. rw fewer_is (opens n opened a table place U waits o few (rw is (one m (omega arith))) e);
+    stays = opened_stays r.pieces opened a table place r.among waits r.opening r.few (rw is (r.after_one m (omega arith))) e;
+  }
+
+  pub room_left : Room (m + 1) afters opened table place waits → get_or waits a 0 ≡ 1 → opened < 256
+  room_left r e =
+      omega (
+        arith,
+        r.few,
+        place_left r.pieces opened a table place r.among waits r.opening r.few (rw is (r.after_one m (omega arith))) e,
+      )
+
+-- At first those that wait for none are open, if every piece is unfinished.
+pub markable : (n opened : ℕ) (table place waits : List ℕ) → n ≤ 256 → length place ≡ 256 → Queue n opened table waits
+    → Markable opened table place
+markable n opened table place waits few sized q = record {
+  sized = sized;
+  few = omega (arith, queue_most n opened table waits q);
+  small = λ k h. omega (arith, q.inside k h);
+  once = q.once;
+}
+
+pub opening_first : (n opened : ℕ) (table place waits : List ℕ) (U : ℕ → Bool) → ((i : ℕ) → i < n → U i ≡ true)
+    → length place ≡ 256 → ((q : ℕ) → q < opened → get_or place (get_or table q 0) 0 ≡ q) → Queue n opened table waits
+    → Opening n opened table place U waits
+opening_first n opened table place waits U all sized placed q = record {
+  sized = q.order_sized;
+  place_sized = sized;
+  waits_sized = q.waits_sized;
+  room = omega (arith, q.as_many);
+  inside = q.inside;
+  placed = placed;
+  idle = q.idle;
+  fresh = λ k h. all _ (q.inside k h);
+  everyone = λ i h z u. q.everyone i h z;
+  whole = λ i h w. all i h;
+}
 
 -- Links passed one after the other, and of the first k links those of the first m.
 pub opens_none : (m : ℕ) (afters : List ℕ) (opened : ℕ) (table place waits : List ℕ)

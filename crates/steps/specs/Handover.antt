@@ -56,9 +56,3 @@ module _ (l : Ties) where
   hand_to m c left chosen busy zero s = s
   hand_to m c left chosen busy (suc k) s =
       hand_on m c left (get_or chosen (get_or busy k 0) 0) (hand_to m c left chosen busy k s)
-
--- Every link of the first m names two of at most 256 pieces.
-pub record Named (m : ℕ) (befores afters : List ℕ) : Type 0 where
-  pub few : m ≤ 1024
-  pub before_one : (k : ℕ) → k < m → get_or befores k 0 < 256
-  pub after_one : (k : ℕ) → k < m → get_or afters k 0 < 256

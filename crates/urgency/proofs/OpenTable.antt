@@ -18,32 +18,6 @@ use Rattle.steps.specs.Opening.{Among, unfinished, Opening, Markable, Working, s
 use Rattle.steps.specs.Work.{Work, work_to}
 use Rattle.handing.proofs.Opened.{opening_alike}
 
--- Before the first slot every piece is unfinished.
-pub markable : (n opened : ℕ) (table place waits : List ℕ) → n ≤ 256 → length place ≡ 256 → Queue n opened table waits
-    → Markable opened table place
-markable n opened table place waits few sized q = record {
-  sized = sized;
-  few = omega (arith, queue_most n opened table waits q);
-  small = λ k h. omega (arith, q.inside k h);
-  once = q.once;
-}
-
-pub opening_first : (n opened : ℕ) (table place left waits : List ℕ) → ((i : ℕ) → i < n → 0 < get_or left i 0)
-    → length place ≡ 256 → ((q : ℕ) → q < opened → get_or place (get_or table q 0) 0 ≡ q) → Queue n opened table waits
-    → Opening n opened table place (unfinished left) waits
-opening_first n opened table place left waits all sized placed q = record {
-  sized = q.order_sized;
-  place_sized = sized;
-  waits_sized = q.waits_sized;
-  room = omega (arith, q.as_many);
-  inside = q.inside;
-  placed = placed;
-  idle = q.idle;
-  fresh = λ k h. lt-ltb 0 _ (all _ (q.inside k h));
-  everyone = λ i h z u. q.everyone i h z;
-  whole = λ i h w. lt-ltb 0 _ (all i h);
-}
-
 -- The pieces that the desks chose are open, and no two are one, since each stands on its own desk.
 pub working : (v : View) (opened count : ℕ) (table chosen busy : List ℕ) (next : ℕ)
     → LookedAt v (Among table opened) count chosen busy next → Working count chosen busy opened table

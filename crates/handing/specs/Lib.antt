@@ -1,0 +1,2 @@
+-- The open pieces of a job as a struct.
+pub mod Open
