@@ -9,11 +9,21 @@ use borrow.Author.Tests.{ltb-true, ltb-false}
 use lib.Dec.{ltb}
 use lib.ListN.{get_or}
 use lib.Seq.{get_or-set_other}
+use lib.ListN.{set}
+use Rattle.rules.specs.Job.{no_piece}
+use Rattle.rules.specs.Tables.{durations_of, starts_of, finishes_of, no_span}
+use Rattle.rules.specs.declared.Piece.{Piece}
+use Rattle.rules.specs.declared.Span.{Span}
 use Rattle.laws.proofs.Words.{by_test}
+use Rattle.handing.specs.Open.{OnlyReady}
+use Rattle.moving.proofs.Worked.{works_on, keys_stay, ready_stays}
+use Rattle.moving.specs.Worked.{worked_state, worked_span}
+use Rattle.steps.specs.States.{keys_of, left_of, ready_of, no_state}
+use Rattle.steps.specs.declared.State.{State}
 use Rattle.steps.specs.Choice.{whom}
 use Rattle.steps.specs.Handover.{Ties, Waiting, hand_on, hand_to}
 use Rattle.steps.specs.Opening.{Hands, Working}
-use Rattle.steps.specs.Work.{Work, work_to}
+use Rattle.steps.specs.Work.{Work, work, forth, work_to}
 
 module _ (durations : List ℕ) (t next count : ℕ) (chosen busy : List ℕ) (opened : ℕ) (table : List ℕ)
     (w : Working count chosen busy opened table) (v : Work) where
@@ -54,3 +64,18 @@ opens_by m afters i left left' opened table place waits opened₂ table₂ place
 pub handed_end : (l : Ties) (m c : ℕ) (left rest chosen busy : List ℕ) (q count : ℕ) (s r : Waiting) → q ≡ count
     → rest ≡ left → r ≡ hand_to l m c left chosen busy q s → r ≡ hand_to l m c rest chosen busy count s
 handed_end l m c left rest chosen busy q count s r e x h = rw (x, ← e) h
+
+-- One desk's piece worked on and handed over, with what the code made of its state and of its span.
+module _ (ps : List Piece) (t next i : ℕ) (xs zs : List State) (ws : List Span) (x : State) (y : Span)
+    (state_is : x ≡ worked_state t next (get_or xs i no_state))
+    (span_is : y ≡ worked_span t next (get_or ps i no_piece) (get_or xs i no_state) (get_or ws i no_span))
+    (only : OnlyReady (set xs i x) zs) where
+  pub worked_then : work (left_of zs) (starts_of (set ws i y)) (finishes_of (set ws i y))
+      ≡ forth (durations_of ps) t next i (work (left_of xs) (starts_of ws) (finishes_of ws))
+  worked_then = rw (only.left_stays, state_is, span_is) (works_on ps t next i xs ws)
+
+  pub keys_then : keys_of zs ≡ keys_of xs
+  keys_then = only.keys_stay ∙ rw state_is (keys_stay ps t next i xs ws)
+
+  pub ready_then : ready_of (set xs i x) ≡ ready_of xs
+  ready_then = rw state_is (ready_stays ps t next i xs ws)

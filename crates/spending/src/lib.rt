@@ -2,89 +2,101 @@
 // is handed over. One loop over the desks, since how many work cannot be foretold, and each loop's end costs.
 #![tactic(auto)]
 
-ghost use Rattle.std.specs.Prelude.{Bool, ◌≡◌, ℕ, ◌<◌, ◌≤◌, get_or};
-ghost use Rattle.links.specs.Chains.{Chained};
-ghost use Rattle.steps.specs.Choice.{Busy};
-ghost use Rattle.steps.specs.Handover.{Named, ties, waiting, hand_to};
+ghost use Rattle.std.specs.Prelude.{Bool, ◌≡◌, ℕ, ◌<◌, ◌≤◌, length, get_or, replicate, None};
+ghost use Rattle.rules.specs.Tables.{afters_of, durations_of, starts_of, finishes_of};
+ghost use Rattle.handing.specs.Open.{tied, waiting_in, Linked, OpenIn, RoomFor};
+ghost use Rattle.steps.specs.Choice.{whom, Busy};
+ghost use Rattle.steps.specs.Handover.{hand_to};
 ghost use Rattle.steps.specs.Log.{log, note_to};
-ghost use Rattle.steps.specs.Opening.{Opening, Room, Working, spent_to};
+ghost use Rattle.steps.specs.Opening.{Working, spent_to};
+ghost use Rattle.steps.specs.States.{keys_of, left_of, no_state};
 ghost use Rattle.steps.specs.Work.{work, work_to};
 
-use handing::handover::hand_on;
-use moving::log::note;
+use arrayvec::ArrayVec;
+use deciding::Choice;
+use handing::job::Job;
+use handing::open::Open;
+use moving::log::LastRuns;
 use moving::work::work_on;
+use rules::{Run, Span};
+use steps::State;
 
-// How many runs are noted, and how many pieces are open.
-#[derive(Clone, Copy)]
-pub struct Moved {
-    pub runs: usize,
-    pub opened: usize,
+/// How far a plan is at a decision moment.
+#[derive(Drop)]
+pub struct Standing {
+    /// For each piece its state.
+    pub states: [State; 256],
+    /// The open pieces.
+    pub opened: Open,
+    /// For each desk its last run.
+    pub lasts: LastRuns,
 }
 
-pub fn spend_all(
-    m: usize,
-    t: u32,
-    next: u32,
-    runs: usize,
-    opened: usize,
-    count: usize,
-    desks: &[u8; 256],
-    durations: &[u16; 256],
-    befores: &[u16; 1024],
-    afters: &[u16; 1024],
-    handovers: &[u16; 1024],
-    lasts: &[u16; 256],
-    priors: &[u16; 1024],
-    chosen: &[u16; 32],
-    busy: &[u16; 33],
-    left: &mut [u32; 256],
-    start: &mut [u32; 256],
-    finish: &mut [u32; 256],
-    last: &mut [usize; 32],
-    piece: &mut [u16; 512],
-    from: &mut [u32; 512],
-    until: &mut [u32; 512],
-    waits: &mut [u16; 256],
-    ready: &mut [u32; 256],
-    table: &mut [u16; 256],
-    place: &mut [u16; 256],
-) -> Moved
-    requires named { Named m befores.now afters.now }
-    requires chained { Chained befores.now m lasts.now priors.now }
-    requires next_bound { (next < 4000000000) × Busy 256 count chosen.now busy.now
-        × Working count chosen.now busy.now opened table.old }
-    requires room { Room m afters.now opened table.old place.old waits.old }
-    ensures finish_after { work left.new start.new finish.new
-        ≡ work_to durations.now t next chosen.now busy.now count
-        (work left.old start.old finish.old) }
-    ensures until_after { log result.runs last.new piece.new from.new until.new
-        ≡ note_to t next chosen.now busy.now count
-        (log runs last.old piece.old from.old until.old) }
-    ensures ready_after { waiting waits.new ready.new
-        ≡ hand_to (ties desks.now befores.now afters.now
-        handovers.now) m next left.new chosen.now busy.now count
-        (waiting waits.old ready.old) }
-    ensures by_index { (n : ℕ) (U : ℕ → Bool) → n ≤ 256 → ((k : ℕ) → k < m → get_or afters.now k 0 < n)
-        → Opening n opened table.old place.old U waits.old
-        → Opening n result.opened table.new place.new
-        (spent_to chosen.now busy.now left.new U count) waits.new }
-{
-    let mut noted = runs;
-    let mut held = opened;
-    let mut q = 0;
-    while q < count {
-        let d = busy[q] as usize;
-        let i = chosen[d] as usize;
-        work_on(i, t, next, durations, left, start, finish);
-        noted = note(d, i, t, next, noted, last, piece, from, until);
-        held = hand_on(
-            m, i, next, held, desks, befores, afters, handovers, lasts, priors, left, waits, ready,
-            table, place,
-        );
-        q += 1;
+impl Standing {
+    /// Nothing is known of any piece, and no desk has a run.
+    pub fn new() -> Standing
+        ensures states { result.states ≡ replicate 256 no_state }
+        ensures opened { result.opened
+            ≡ record { table = replicate 256 0; count = 0; place = replicate 256 0; waits = replicate 256 0 } }
+        ensures lasts { result.lasts.places ≡ replicate 32 None }
+    {
+        Standing {
+            states: [State {
+                key: 0,
+                left: 0,
+                ready: 0,
+            }; 256],
+            opened: Open::new(),
+            lasts: LastRuns::new(),
+        }
     }
-    Moved {
-        runs: noted,
-        opened: held,
+
+    /// Each desk works on its choice from moment t until moment `next`.
+    pub fn spend_all(
+        &mut self,
+        job: &Job,
+        choice: &Choice,
+        t: u32,
+        next: u32,
+        spans: &mut [Span; 256],
+        runs: &mut ArrayVec<Run, 512>,
+    )
+        requires linked { Linked job.now }
+        requires small { next < 4000000000 }
+        requires busy { Busy choice.now.count choice.now.chosen choice.now.busy }
+        requires inside { (q : ℕ) → q < choice.now.count
+            → whom choice.now.chosen choice.now.busy q < length job.now.pieces.now }
+        requires working { Working choice.now.count choice.now.chosen choice.now.busy self.old.opened.count
+            self.old.opened.table }
+        requires room { RoomFor (length job.now.links.now) job.now self.old.opened }
+        ensures work_after { work (left_of self.new.states) (starts_of spans.new) (finishes_of spans.new)
+            ≡ work_to (durations_of job.now.pieces.now) t next choice.now.chosen choice.now.busy choice.now.count
+            (work (left_of self.old.states) (starts_of spans.old) (finishes_of spans.old)) }
+        ensures log_after { log runs.new.items self.new.lasts.places
+            ≡ note_to t next choice.now.chosen choice.now.busy choice.now.count
+            (log runs.old.items self.old.lasts.places) }
+        ensures ready_after { waiting_in self.new.opened self.new.states
+            ≡ hand_to (tied job.now) (length job.now.links.now) next (left_of self.new.states) choice.now.chosen
+            choice.now.busy choice.now.count (waiting_in self.old.opened self.old.states) }
+        ensures keys_stay { keys_of self.new.states ≡ keys_of self.old.states }
+        ensures opened_after { (n : ℕ) (U : ℕ → Bool) → n ≤ 256
+            → ((k : ℕ) → k < length job.now.links.now → get_or (afters_of job.now.links.now) k 0 < n)
+            → OpenIn n U self.old.opened
+            → OpenIn n (spent_to choice.now.chosen choice.now.busy (left_of self.new.states) U choice.now.count)
+            self.new.opened }
+    {
+        for q in 0..choice.count {
+            let desk = usize::from(choice.busy[q]);
+            let piece = choice.chosen[desk];
+            let i = usize::from(piece);
+            work_on(&job.pieces[i], t, next, &mut self.states[i], &mut spans[i]);
+            let run = Run {
+                piece,
+                from: t,
+                until: next,
+            };
+            self.lasts.note(runs, desk, run);
+            self.opened.hand_on(job, i, next, &mut self.states);
+        }
     }
 }
