@@ -1,2 +1,2 @@
--- What follows from a finished plan in its tables.
+-- What follows from a finished plan.
 pub mod FinishedLaws

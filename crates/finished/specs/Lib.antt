@@ -1,2 +1,2 @@
--- A finished plan in its tables.
+-- A finished plan.
 pub mod Finished
