@@ -1,2 +1,0 @@
--- What the contracts of this crate cite besides the rules and the promises.
-pub mod Refused
