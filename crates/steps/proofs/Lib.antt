@@ -1,6 +1,7 @@
 -- That one step over the tables is the plan from one decision moment to the next, by topic.
 pub mod States
 pub mod Tables
+pub mod Alike
 pub mod Moved
 pub mod Precedence
 pub mod Decision

@@ -1,39 +1,45 @@
--- A job made of tables has those tables.
+-- The tables of a job's pieces and links are those of the job.
 use Prim.Native.Nat.{ℕ, zero, suc, ◌+◌, ◌<◌}
 use mathlib.Core.List.{List, [], ◌∷◌, ◌++◌}
-use mathlib.Core.Path.{◌≡◌, refl, ap, ◌∙◌}
+use mathlib.Core.Path.{◌≡◌, refl, sym, ap, ◌∙◌}
 use native.Mathlib.Omega.{arith}
-use lib.ListN.{get_or, length-map}
+use lib.ListN.{length, get_or}
 use Rattle.rules.specs.Words.{row, below}
-use Rattle.rules.specs.Job.{Job, piece, no_piece}
+use Rattle.rules.specs.Job.{Job}
 use Rattle.rules.specs.Moments.{latest}
-use Rattle.rules.specs.Tables.{piece_in, pieces_in, links_in, job_in}
-use Rattle.laws.proofs.Words.{length-below, get_or-below}
+use Rattle.rules.specs.Tables.{job_in, links_in, job_of, desks_of, durations_of, releases_of, befores_of, afters_of, handovers_of}
+use Rattle.rules.specs.declared.Link.{Link}
+use Rattle.rules.specs.declared.Piece.{Piece}
+use Rattle.laws.proofs.Columns.{get_or-desks, get_or-durations, get_or-releases, job_in-columns}
 use Rattle.steps.specs.Keys.{key_of}
 use Rattle.steps.specs.Tables.{Tables, Listed}
 
--- The job that the tables and a table of dues make.
-abbrev pub job_of : Tables → List ℕ → Job
-job_of T dues =
-    job_in T.pieces T.links T.desks T.durations T.releases dues T.befores T.afters T.handovers
+-- The tables of these pieces and links, with the keys of the pieces.
+abbrev pub tables_of : List Piece → List Link → List ℕ → Tables
+tables_of ps ls keys = record {
+  pieces = length ps;
+  links = length ls;
+  desks = desks_of ps;
+  durations = durations_of ps;
+  releases = releases_of ps;
+  befores = befores_of ls;
+  afters = afters_of ls;
+  handovers = handovers_of ls;
+  keys = keys;
+}
 
-module _ (T : Tables) (dues : List ℕ) where
-  piece_is : (i : ℕ) → i < T.pieces → piece (job_of T dues) i ≡ piece_in T.desks T.durations T.releases dues i
-  unfolding job_in pieces_in
-  piece_is i h = get_or-below (piece_in T.desks T.durations T.releases dues) no_piece T.pieces i h
-
-  pub listed : ((i : ℕ) → i < T.pieces → get_or T.keys i 0 ≡ key_of (latest (job_of T dues) i) i)
-      → Listed (job_of T dues) T
-  unfolding job_in pieces_in links_in piece_in
-  listed h = record {
-    count = length-map (below T.pieces) (piece_in T.desks T.durations T.releases dues)
-        ∙ length-below T.pieces;
-    desk_is = λ i l. ap (λ p. p.desk) (piece_is i l);
-    duration_is = λ i l. ap (λ p. p.duration) (piece_is i l);
-    release_is = λ i l. ap (λ p. p.release) (piece_is i l);
-    links_are = refl;
-    key_is = h;
-  }
+pub listed : (ps : List Piece) (ls : List Link) (keys : List ℕ)
+    → ((i : ℕ) → i < length ps → get_or keys i 0 ≡ key_of (latest (job_of ps ls) i) i)
+    → Listed (job_of ps ls) (tables_of ps ls keys)
+unfolding job_in links_in
+listed ps ls keys h = record {
+  count = refl;
+  desk_is = λ i l. sym (get_or-desks ps i);
+  duration_is = λ i l. sym (get_or-durations ps i);
+  release_is = λ i l. sym (get_or-releases ps i);
+  links_are = ap (λ (J : Job). J.links) (sym (job_in-columns ps ls));
+  key_is = h;
+}
 
 -- One number more in a row.
 pub row_more : (n a : ℕ) → row a (suc n) ≡ row a n ++ ((a + n) ∷ [])

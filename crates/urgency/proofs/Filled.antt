@@ -1,13 +1,20 @@
 -- Tables filled from the front, one place more at a time.
 use Prim.Native.Nat.{ℕ, ◌+◌, ◌<◌}
-use mathlib.Core.List.{List}
-use mathlib.Core.Path.{◌≡◌, refl, ◌∙◌}
+use mathlib.Core.List.{List, map}
+use mathlib.Core.Path.{◌≡◌, ◌∙◌}
 use native.Mathlib.Omega.{arith}
 use borrow.Author.Tests.{eqb-true, eqb-false}
 use lib.Dec.{eqb}
-use lib.ListN.{length, get_or, set, length-set}
+use lib.IntN.{ℤ, pos}
+use lib.ListN.{length, get_or, set, length-set, length-map}
+use Rattle.std.proofs.lemmas.List.{map-set}
 use lib.Seq.{get_or-set_same, get_or-set_other}
 use Rattle.laws.proofs.Words.{by_test}
+use Rattle.rules.specs.Tables.{starts_of, finishes_of}
+use Rattle.rules.specs.declared.Span.{Span}
+use Rattle.steps.specs.Keys.{key_of, Keyed}
+use Rattle.steps.specs.States.{keys_of, left_of, ready_of}
+use Rattle.steps.specs.declared.State.{State}
 use Rattle.urgency.specs.Plan.{Begun}
 
 pub filled : (T : List ℕ) (i x : ℕ) (f : ℕ → ℕ) → i < length T → ((j : ℕ) → j < i → get_or T j 0 ≡ f j) → x ≡ f i
@@ -16,31 +23,52 @@ filled T i x f b h e j l = by_test (eqb j i)
     (λ q. let z : j ≡ i = eqb-true j i q in rw (z, get_or-set_same T i x 0 b) e)
     (λ q. let ne = eqb-false j i q in get_or-set_other T i j x 0 ne ∙ h j (omega arith))
 
-pub begun-none : (durations releases left ready starts finishes : List ℕ) → length left ≡ 256 → length ready ≡ 256
-    → length starts ≡ 256 → length finishes ≡ 256 → Begun 0 durations releases left ready starts finishes
-begun-none durations releases left ready starts finishes a b c d = record {
-  left_sized = a;
-  ready_sized = b;
-  starts_sized = c;
-  finishes_sized = d;
-  left_is = λ i h. absurd (omega arith);
-  ready_is = λ i h. absurd (omega arith);
-  start_is = λ i h. absurd (omega arith);
-  finish_is = λ i h. absurd (omega arith);
-}
+-- The tables of the states and of the spans of the pieces.
+module _ (durations releases : List ℕ) (latests : List ℤ) (xs : List State) (ws : List Span) where
+  pub begun-none : length xs ≡ 256 → length ws ≡ 256
+      → Begun 0 durations releases (left_of xs) (ready_of xs) (starts_of ws) (finishes_of ws)
+  begun-none a b = record {
+    left_sized = length-map xs (λ x. x.left) ∙ a;
+    ready_sized = length-map xs (λ x. x.ready) ∙ a;
+    starts_sized = length-map ws (λ w. w.start) ∙ b;
+    finishes_sized = length-map ws (λ w. w.finish) ∙ b;
+    left_is = λ i h. absurd (omega arith);
+    ready_is = λ i h. absurd (omega arith);
+    start_is = λ i h. absurd (omega arith);
+    finish_is = λ i h. absurd (omega arith);
+  }
 
-pub begun_more : (durations releases left ready starts finishes : List ℕ) (i x : ℕ) → i < 256 → x ≡ get_or durations i 0
-    → Begun i durations releases left ready starts finishes
-    → Begun (i + 1) durations releases (set left i x) (set ready i (get_or releases i 0)) (set starts i 0)
-    (set finishes i 0)
-begun_more durations releases left ready starts finishes i x b e h = record {
-  left_sized = length-set left i x ∙ h.left_sized;
-  ready_sized = length-set ready i (get_or releases i 0) ∙ h.ready_sized;
-  starts_sized = length-set starts i 0 ∙ h.starts_sized;
-  finishes_sized = length-set finishes i 0 ∙ h.finishes_sized;
-  left_is = filled left i x (λ j. get_or durations j 0) (omega (arith, h.left_sized)) h.left_is e;
-  ready_is = filled ready i (get_or releases i 0) (λ j. get_or releases j 0) (omega (arith, h.ready_sized))
-      h.ready_is refl;
-  start_is = filled starts i 0 (λ j. 0) (omega (arith, h.starts_sized)) h.start_is refl;
-  finish_is = filled finishes i 0 (λ j. 0) (omega (arith, h.finishes_sized)) h.finish_is refl;
-}
+  pub keyed_none : length xs ≡ 256 → Keyed 0 latests (keys_of xs)
+  keyed_none a = record { sized = length-map xs (λ x. x.key) ∙ a; each = λ i h. absurd (omega arith) }
+
+  module _ (i : ℕ) (x : State) (w : Span) (small : i < 256) where
+    stored : {A : Type 0} (f : A → ℕ) (l : List A) (y : A) (g : ℕ → ℕ) → length (map f l) ≡ 256
+        → ((j : ℕ) → j < i → get_or (map f l) j 0 ≡ g j) → f y ≡ g i → (j : ℕ) → j < i + 1
+        → get_or (map f (set l i y)) j 0 ≡ g j
+    stored f l y g sized h e j b =
+        rw (map-set f l i y) (filled (map f l) i (f y) g (omega (arith, sized)) h e j b)
+
+    same_length : {A : Type 0} (f : A → ℕ) (l : List A) (y : A) → length (map f (set l i y)) ≡ length (map f l)
+    same_length f l y = rw (map-set f l i y) (length-set (map f l) i (f y))
+
+    pub begun_more : x.left ≡ get_or durations i 0 → x.ready ≡ get_or releases i 0 → w.start ≡ 0 → w.finish ≡ 0
+        → Begun i durations releases (left_of xs) (ready_of xs) (starts_of ws) (finishes_of ws)
+        → Begun (i + 1) durations releases (left_of (set xs i x)) (ready_of (set xs i x)) (starts_of (set ws i w))
+        (finishes_of (set ws i w))
+    begun_more a b c d h = record {
+      left_sized = same_length (λ x. x.left) xs x ∙ h.left_sized;
+      ready_sized = same_length (λ x. x.ready) xs x ∙ h.ready_sized;
+      starts_sized = same_length (λ w. w.start) ws w ∙ h.starts_sized;
+      finishes_sized = same_length (λ w. w.finish) ws w ∙ h.finishes_sized;
+      left_is = stored (λ x. x.left) xs x (λ j. get_or durations j 0) h.left_sized h.left_is a;
+      ready_is = stored (λ x. x.ready) xs x (λ j. get_or releases j 0) h.ready_sized h.ready_is b;
+      start_is = stored (λ w. w.start) ws w (λ j. 0) h.starts_sized h.start_is c;
+      finish_is = stored (λ w. w.finish) ws w (λ j. 0) h.finishes_sized h.finish_is d;
+    }
+
+    pub keyed_more : x.key ≡ key_of (get_or latests i (pos 0)) i → Keyed i latests (keys_of xs)
+        → Keyed (i + 1) latests (keys_of (set xs i x))
+    keyed_more e h = record {
+      sized = same_length (λ x. x.key) xs x ∙ h.sized;
+      each = stored (λ x. x.key) xs x (λ j. key_of (get_or latests j (pos 0)) j) h.sized h.each e;
+    }

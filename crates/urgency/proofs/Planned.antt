@@ -1,54 +1,69 @@
--- From the contract's side to the steps': the tables given make a job whose plan they hold step by step, and where no
--- step is left the tables have the whole plan.
-use Prim.Native.Nat.{ℕ, ◌≤◌, ◌<◌}
-use mathlib.Core.Bool.{Bool}
-use mathlib.Core.List.{List}
+-- From the contract's side to the steps': the pieces and links given make a job whose plan the tables hold step by step,
+-- and where no step is left the tables have the whole plan.
+use Prim.Native.Nat.{ℕ, ◌≤◌, ◌<◌, ◌%◌}
+use mathlib.Core.Bool.{Bool, true}
+use mathlib.Core.List.{List, []}
+use mathlib.Core.Logic.{inl, inr}
 use mathlib.Core.Path.{◌≡◌, refl, sym, ap, ◌∙◌}
 use native.Mathlib.Omega.{arith}
-use lib.ListN.{length, get_or, length-map}
-use Rattle.rules.specs.Words.{below}
-use Rattle.rules.specs.Job.{Job, piece_count}
-use Rattle.rules.specs.Tables.{link_in}
+use borrow.Author.Tests.{lt-ltb}
+use lib.ListN.{length, get_or, take}
+use Rattle.std.specs.declared.option.Option.TheVariants.{None}
+use Rattle.rules.specs.Job.{Job}
+use Rattle.rules.specs.Tables.{job_of, desks_of, durations_of, releases_of, befores_of, afters_of, starts_of, finishes_of, run_pieces, run_froms, run_untils, no_link}
 use Rattle.rules.specs.Urgency.{start, finish, horizon}
 use Rattle.rules.specs.declared.Link.{Link}
+use Rattle.rules.specs.declared.Piece.{Piece}
+use Rattle.rules.specs.declared.Run.{Run}
+use Rattle.rules.specs.declared.Span.{Span}
+use Rattle.laws.proofs.Columns.{get_or-run_pieces, get_or-befores, get_or-afters}
 use Rattle.laws.proofs.Finishing.{all_finished, horizon_most}
 use Rattle.laws.proofs.Latest.{latest_near}
-use Rattle.laws.proofs.Sound.{LinkFits, fits, link_fit}
-use Rattle.laws.proofs.Words.{length-below, mem_map, below_mem}
-use Rattle.links.specs.Links.{links_to}
+use Rattle.laws.proofs.Sound.{LinkFits, fits, link_fit, place_mem}
+use Rattle.links.specs.Links.{links_to, Ties as Between}
 use Rattle.slots.specs.Stretch.{at}
 use Rattle.slots.proofs.Ended.{Ended, ended_same, ended_runs}
 use Rattle.slots.proofs.Growth.{runs-grown}
 use Rattle.handing.proofs.Opened.{opened_few}
-use Rattle.steps.specs.Choice.{View, view, Decided, never}
-use Rattle.steps.specs.Handover.{Named, ties, Waiting, waiting, hand_to}
+use Rattle.handing.specs.Open.{OpenIn, waiting_in}
+use Rattle.spending.specs.declared.Standing.{Standing}
+use Rattle.steps.specs.Choice.{View, view, Best, Choice, Decided, never, whom}
+use Rattle.steps.specs.Handover.{ties, Waiting, hand_to}
+use Rattle.steps.specs.Keys.{no_key}
 use Rattle.steps.specs.Log.{Log, log, note_to}
-use Rattle.steps.specs.Opening.{Among, unfinished, Opening, Lookable}
+use Rattle.steps.specs.Opening.{Among, unfinished, Opening, Lookable, Working, spent_to}
+use Rattle.steps.specs.States.{keys_of, left_of, ready_of}
 use Rattle.steps.specs.Tables.{Tables, Listed}
 use Rattle.steps.specs.Work.{Work, work, work_to}
+use Rattle.steps.proofs.Alike.{decided_alike, opened_length, opened_at, among_table, among_opened}
 use Rattle.steps.proofs.Begin.{begun-work, begun_waits, begun-log}
 use Rattle.steps.proofs.Precedence.{key_tells, key_somebody}
 use Rattle.steps.proofs.Scores.{scores_most}
-use Rattle.steps.proofs.Step.{Held, few_pieces, few_desks, ahead, at_most, within, finished, step}
-use Rattle.steps.proofs.Tables.{job_of, listed}
+use Rattle.steps.proofs.Step.{Held, few_pieces, few_desks, ahead, within, finished, step}
+use Rattle.steps.proofs.Tables.{tables_of, listed}
+use Rattle.urgency.proofs.OpenTable.{opening_then}
 use Rattle.urgency.specs.Plan.{Ranked, Planned, Begun}
 
-module _ (T : Tables) (dues : List ℕ) where
+module _ (ps : List Piece) (ls : List Link) (keys : List ℕ) where
   abbrev pub job : Job
-  job = job_of T dues
+  job = job_of ps ls
+
+  abbrev T : Tables
+  T = tables_of ps ls keys
 
   abbrev pub seen : ℕ → Work → Waiting → View
   seen t w s = view t T.desks T.keys w.left s.ready
 
   -- The loop stands at moment t: the tables hold the plan, and one has the open pieces.
-  pub record Standing (t opened : ℕ) (w : Work) (s : Waiting) (l : Log) (table place busy : List ℕ) : Type 0 where
-    pub held : Held job T.pieces T.desks t w s l
-    pub opening : Opening T.pieces opened table place (unfinished w.left) s.waits
-    pub busy_sized : length busy ≡ 33
+  pub record StandsAt (t : ℕ) (x : Standing) (ws : List Span) (rs : List Run) : Type 0 where
+    pub held : Held job (length ps) (desks_of ps) t (work (left_of x.states) (starts_of ws) (finishes_of ws))
+        (waiting_in x.opened x.states) (log rs x.lasts.places)
+    pub opening : OpenIn (length ps) (unfinished (left_of x.states)) x.opened
+    pub keys_same : keys_of x.states ≡ keys
 
-  module _ (g : Ranked job T.pieces T.keys) where
+  module _ (g : Ranked job (length ps) keys) where
     lists : Listed job T
-    lists = listed T dues g.key_is
+    lists = listed ps ls keys g.key_is
 
     pub few : T.pieces ≤ 256
     few = few_pieces job g.sound g.free T lists
@@ -57,133 +72,185 @@ module _ (T : Tables) (dues : List ℕ) where
     desks_few i h = rw (lists.desk_is i h) at (few_desks job g.sound g.free T lists i h)
 
     -- The links name pieces of the job.
-    abbrev link : ℕ → Link
-    link = link_in T.befores T.afters T.handovers
+    fit : (k : ℕ) → k < length ls → LinkFits (length ps) (get_or ls k no_link)
+    fit k h = link_fit job g.sound (get_or ls k no_link) (place_mem no_link ls k h)
 
-    fit : (k : ℕ) → k < T.links → LinkFits (piece_count job) (link k)
-    fit k h =
-        link_fit job g.sound (link k) (rw lists.links_are
-        (mem_map link (below T.links) k (below_mem T.links k h)))
-
-    pub named : Named T.links T.befores T.afters
-    unfolding link_in
-    named =
-        let count : length job.links ≡ T.links =
-        ap length lists.links_are ∙ length-map (below T.links) link ∙ length-below T.links in
-        record {
-          few = rw count at g.sound.few_links;
-          before_one = λ k h. omega (arith, (fit k h).before_one, g.sound.few_pieces);
-          after_one = λ k h. omega (arith, (fit k h).after_one, g.sound.few_pieces);
-        }
-
-    pub after_inside : (k : ℕ) → k < T.links → get_or T.afters k 0 < T.pieces
-    unfolding link_in
-    after_inside k h = rw lists.count at (fit k h).after_one
+    pub between : Between (length ps) (length ls) (befores_of ls) (afters_of ls)
+    between = record {
+      few_pieces = few;
+      few_links = g.sound.few_links;
+      before_one = λ k h. rw (get_or-befores ls k) (fit k h).before_one;
+      after_one = λ k h. rw (get_or-afters ls k) (fit k h).after_one;
+    }
 
     -- Before the first slot.
-    pub before_first : (left ready starts finishes waits last pieces froms untils : List ℕ)
-        → Begun T.pieces T.durations T.releases left ready starts finishes → length waits ≡ 256
-        → ((i : ℕ) → i < 256 → get_or waits i 0 ≡ links_to T.links T.afters i) → length last ≡ 32
-        → ((d : ℕ) → d < 32 → get_or last d 0 ≡ 512) → length pieces ≡ 512 → length froms ≡ 512 → length untils ≡ 512
-        → Held job T.pieces T.desks 0 (work left starts finishes) (waiting waits ready)
-        (log 0 last pieces froms untils)
-    before_first left ready starts finishes waits last pieces froms untils b ws w ls l ps fs us = record {
+    pub before_first : (x : Standing) (ws : List Span) (rs : List Run)
+        → Begun (length ps) (durations_of ps) (releases_of ps) (left_of x.states) (ready_of x.states) (starts_of ws)
+        (finishes_of ws)
+        → length x.opened.waits ≡ 256 → ((i : ℕ) → i < 256 → get_or x.opened.waits i 0 ≡ links_to (length ls) (afters_of ls) i)
+        → length x.lasts.places ≡ 32 → ((d : ℕ) → d < 32 → get_or x.lasts.places d None ≡ None) → rs ≡ []
+        → Held job (length ps) (desks_of ps) 0 (work (left_of x.states) (starts_of ws) (finishes_of ws))
+        (waiting_in x.opened x.states) (log rs x.lasts.places)
+    before_first x ws rs b ms m ls l rs_none = record {
       in_time = omega arith;
       working = begun-work job g.sound T.pieces lists.count T.durations lists.duration_is
-          (work left starts finishes) b.left_sized b.starts_sized b.finishes_sized b.left_is b.start_is
-          b.finish_is;
+          (work (left_of x.states) (starts_of ws) (finishes_of ws)) b.left_sized b.starts_sized b.finishes_sized b.left_is
+          b.start_is b.finish_is;
       waiting = begun_waits job g.sound T.pieces lists.count T.links T.releases T.befores T.afters
-          T.handovers lists.release_is lists.links_are (waiting waits ready) ws b.ready_sized
-          (λ i h. w i (omega (arith, few))) b.ready_is;
-      logging = begun-log job g.sound T.pieces lists.count T.desks (log 0 last pieces froms untils)
-          refl ls ps fs us l;
+          T.handovers lists.release_is lists.links_are (waiting_in x.opened x.states) ms b.ready_sized
+          (λ i h. m i (omega (arith, few))) b.ready_is;
+      logging = begun-log job g.sound T.pieces lists.count T.desks (log rs x.lasts.places) rs_none ls l;
     }
 
     -- No moment of the plan is the last that a number can say, and the table may be looked at.
     pub in_time : (t : ℕ) (w : Work) (s : Waiting) (l : Log) → Held job T.pieces T.desks t w s l → t < never
     in_time t w s l h = omega (arith, h.in_time, horizon_most job g.sound g.free)
 
-    pub lookable : (opened : ℕ) (table place : List ℕ) (U : ℕ → Bool) (waits : List ℕ)
-        → Opening T.pieces opened table place U waits → Lookable opened table T.desks T.keys
-    lookable opened table place U waits o = record {
-      few = omega (arith, opened_few T.pieces opened table place U waits o, few);
-      small = λ q h. omega (arith, o.inside q h, few);
-      desk_most = λ q h. desks_few (get_or table q 0) (o.inside q h);
-      telling = λ q h. rw (g.key_is _ (o.inside q h)) (key_tells _ _ (omega (arith, o.inside q h, few)));
-      own_key = λ q h. rw (g.key_is _ (o.inside q h)) (key_somebody _ _ (omega (arith, o.inside q h, few))
-          (omega (arith, (latest_near job g.sound g.free (get_or table q 0) (rw lists.count (o.inside q h))).up_most)));
-    }
+    pub lookable : (count : ℕ) (table place : List ℕ) (U : ℕ → Bool) (waits opened : List ℕ)
+        → Opening T.pieces count table place U waits → opened ≡ take count table → Lookable T.pieces opened T.desks T.keys
+    lookable count table place U waits opened o is =
+        let fits : count ≤ length table =
+        omega (arith, opened_few T.pieces count table place U waits o, few, o.sized) in
+        let here : (q : ℕ) → q < length opened → q < count = λ q h. omega (arith, opened_length table opened count fits is) in
+        let same : (q : ℕ) → q < length opened → get_or opened q 0 ≡ get_or table q 0 =
+        λ q h. opened_at table opened count fits is q (here q h) in
+        record {
+          few = few;
+          small = λ q h. rw (same q h) (o.inside q (here q h));
+          desk_most = λ q h. rw (same q h) (desks_few (get_or table q 0) (o.inside q (here q h)));
+          telling = λ q h. rw (same q h) (tells (get_or table q 0) (o.inside q (here q h)));
+          own_key = λ q h. rw (same q h) (own (get_or table q 0) (o.inside q (here q h)));
+        }
+      where
+        tells : (i : ℕ) → i < T.pieces → get_or T.keys i 0 % 256 ≡ i
+        tells i h = rw (g.key_is i h) (key_tells _ _ (omega (arith, few)))
+
+        own : (i : ℕ) → i < T.pieces → get_or T.keys i 0 < no_key
+        own i h =
+            rw (g.key_is i h) (key_somebody _ _ (omega (arith, few))
+            (omega (arith, (latest_near job g.sound g.free i h).up_most)))
 
     -- Before the first slot every piece is unfinished.
     pub all_unfinished : (left ready starts finishes : List ℕ)
-        → Begun T.pieces T.durations T.releases left ready starts finishes → (i : ℕ) → i < T.pieces
-        → 0 < get_or left i 0
+        → Begun (length ps) (durations_of ps) (releases_of ps) left ready starts finishes → (i : ℕ) → i < length ps
+        → unfinished left i ≡ true
     all_unfinished left ready starts finishes b i h =
-        omega (
-          arith,
-          b.left_is i h,
-          lists.duration_is i h,
-          (fits job g.sound i (rw lists.count h)).duration_least,
-        )
+        lt-ltb 0 (get_or left i 0)
+        (omega (arith, b.left_is i h, lists.duration_is i h, (fits job g.sound i h).duration_least))
 
     -- It is decided.
-    module _ (t opened : ℕ) (w : Work) (s : Waiting) (l : Log) (table place old : List ℕ)
-        (h : Standing t opened w s l table place old) (count : ℕ) (chosen busy : List ℕ) (next : ℕ)
-        (d : Decided (seen t w s) (Among table opened) count chosen busy next) where
+    module _ (t : ℕ) (x : Standing) (ws : List Span) (rs : List Run) (h : StandsAt t x ws rs) (opened : List ℕ)
+        (is : opened ≡ take x.opened.count x.opened.table) (count : ℕ) (chosen busy : List ℕ) (next : ℕ)
+        (found : Decided (view t (desks_of ps) (keys_of x.states) (left_of x.states) (ready_of x.states))
+        (Among opened (length opened)) count chosen busy next) where
+      abbrev w : Work
+      w = work (left_of x.states) (starts_of ws) (finishes_of ws)
+
+      abbrev s : Waiting
+      s = waiting_in x.opened x.states
+
+      abbrev l : Log
+      l = log rs x.lasts.places
+
+      fits_table : x.opened.count ≤ length x.opened.table
+      fits_table =
+          omega (
+            arith,
+            opened_few (length ps) x.opened.count x.opened.table x.opened.place (unfinished (left_of x.states))
+                x.opened.waits h.opening,
+            few,
+            h.opening.sized,
+          )
+
+      d : Decided (seen t w s) (Among x.opened.table x.opened.count) count chosen busy next
+      d =
+          decided_alike (seen t w s) (Among opened (length opened)) (Among x.opened.table x.opened.count)
+          (among_table x.opened.table opened x.opened.count fits_table is)
+          (among_opened x.opened.table opened x.opened.count fits_table is) count chosen busy next
+          (rw h.keys_same at found)
+
       pub next_ahead : t < next
       next_ahead =
-          ahead job g.sound g.free T lists t w s l h.held opened table place h.opening count chosen busy next d
+          ahead job g.sound g.free T lists t w s l h.held x.opened.count x.opened.table x.opened.place h.opening count
+          chosen busy next d
 
       pub next_within : next < never → next ≤ horizon job
       next_within c =
-          within job g.sound g.free T lists t w s l h.held opened table place h.opening count chosen busy next d
-          c
+          within job g.sound g.free T lists t w s l h.held x.opened.count x.opened.table x.opened.place h.opening count
+          chosen busy next d c
 
       pub next_small : next < never → next ≤ 408160
       next_small c = omega (arith, next_within c, horizon_most job g.sound g.free)
 
+      -- The pieces that the desks chose are open, and no two are one, since each stands on its own desk.
+      best : (q : ℕ) → q < count
+          → Best (seen t w s) (Among x.opened.table x.opened.count) (get_or busy q 0) (whom chosen busy q)
+      unfolding Choice
+      best q b = go (d.looked_at.choices (get_or busy q 0) (d.looked_at.working.desk_most q b))
+        where
+          go : Choice (seen t w s) (Among x.opened.table x.opened.count) count chosen busy (get_or busy q 0)
+              → Best (seen t w s) (Among x.opened.table x.opened.count) (get_or busy q 0) (whom chosen busy q)
+          go (inl z) = z.1
+          go (inr z) = absurd (z.0 (q, b, refl))
+
+      pub working : Working count chosen busy x.opened.count x.opened.table
+      working = record {
+        there = λ q b. (best q b).inside;
+        apart = λ p q b k z. d.looked_at.working.once p q b k
+            (sym (best p b).asks.0 ∙ ap (λ i. get_or (desks_of ps) i 0) z ∙ (best q k).asks.0);
+      }
+
+      pub chosen_inside : (q : ℕ) → q < count → whom chosen busy q < length ps
+      chosen_inside q b = let m = (best q b).inside in rw m.2 at (h.opening.inside m.0 m.1)
+
       -- One step more, with what the code made of the tables.
-      pub goes : next < never → (w' : Work) → w' ≡ work_to T.durations t next chosen busy count w
-          → (s' : Waiting) (l' : Log) → l' ≡ note_to t next chosen busy count l
-          → s' ≡ hand_to (ties T.desks T.befores T.afters T.handovers) T.links next w'.left chosen busy
-          count s
-          → Held job T.pieces T.desks next w' s' l'
-      goes c w' a s' l' b e =
-          let k = step job g.sound g.free T lists t w s l h.held opened table place h.opening count chosen busy
-          next d c in
-          rw (e, b, a) k
+      pub stands_next : next < never → (x' : Standing) (ws' : List Span) (rs' : List Run)
+          → work (left_of x'.states) (starts_of ws') (finishes_of ws') ≡ work_to (durations_of ps) t next chosen busy count w
+          → log rs' x'.lasts.places ≡ note_to t next chosen busy count l
+          → waiting_in x'.opened x'.states
+          ≡ hand_to (ties T.desks T.befores T.afters T.handovers) (length ls) next (left_of x'.states) chosen busy count s
+          → keys_of x'.states ≡ keys_of x.states
+          → OpenIn (length ps) (spent_to chosen busy (left_of x'.states) (unfinished (left_of x.states)) count) x'.opened
+          → StandsAt next x' ws' rs'
+      stands_next c x' ws' rs' a b e k o =
+          let w' : Work = work (left_of x'.states) (starts_of ws') (finishes_of ws') in
+          record {
+            held = held_next w' a (waiting_in x'.opened x'.states) (log rs' x'.lasts.places) b e;
+            opening = opening_then (durations_of ps) t next count chosen busy w w' (length ps) x'.opened.count
+                x'.opened.table x'.opened.place x'.opened.waits a o;
+            keys_same = k ∙ h.keys_same;
+          }
+        where
+          held_next : (w' : Work) → w' ≡ work_to T.durations t next chosen busy count w
+              → (s' : Waiting) (l' : Log) → l' ≡ note_to t next chosen busy count l
+              → s' ≡ hand_to (ties T.desks T.befores T.afters T.handovers) T.links next w'.left chosen busy count s
+              → Held job T.pieces T.desks next w' s' l'
+          held_next w' a s' l' b e =
+              let k = step job g.sound g.free T lists t w s l h.held x.opened.count x.opened.table x.opened.place h.opening
+              count chosen busy next d c in
+              rw (e, b, a) k
 
       -- No step is left.
-      all_done : never ≤ next → Ended job t
+      all_done : next ≡ never → Ended job t
       all_done c =
-          finished job g.sound g.free T lists t w s l h.held opened table place h.opening count chosen busy
-          next d
-          (omega (
-            arith,
-            at_most job g.sound g.free T lists t w s l h.held opened table place h.opening count chosen busy
-                next d,
-          ))
+          finished job g.sound g.free T lists t w s l h.held x.opened.count x.opened.table x.opened.place h.opening count
+          chosen busy next d c
 
-      pub planned : never ≤ next
-          → Planned job T.pieces T.desks w.start w.finish l.piece l.from l.until l.runs
+      pub planned : next ≡ never
+          → Planned job (length ps) (desks_of ps) (starts_of ws) (finishes_of ws) (run_pieces rs) (run_froms rs)
+          (run_untils rs) (length rs)
       unfolding start finish
       planned c =
           let e : Ended job t = all_done c in
           let f : Ended job (horizon job) = all_finished job g.sound g.free in
-          let same : (i : ℕ) → i < T.pieces → at job t i ≡ at job (horizon job) i =
-          λ i b. ended_same job t (horizon job) e f i (rw lists.count b) in
+          let same : (i : ℕ) → i < length ps → at job t i ≡ at job (horizon job) i =
+          λ i b. ended_same job t (horizon job) e f i b in
           record {
             start_is = λ i b. h.held.working.start_is i b ∙ ap (λ p. p.start) (same i b);
             finish_is = λ i b. h.held.working.finish_is i b ∙ ap (λ p. p.finish) (same i b);
             runs_are = λ d b.
                 h.held.logging.runs_are d b ∙ ended_runs job t (horizon job) e f d ∙ sym (runs-grown job d);
-            inside = h.held.logging.inside;
-            few = omega (arith, h.held.logging.few, scores_most job T.pieces (λ d. t));
-            sized = record {
-              starts_sized = h.held.working.start_sized;
-              finishes_sized = h.held.working.finish_sized;
-              pieces_sized = h.held.logging.piece_sized;
-              froms_sized = h.held.logging.from_sized;
-              untils_sized = h.held.logging.until_sized;
-            };
+            inside = λ k b. rw (get_or-run_pieces rs k) (h.held.logging.inside k b);
+            few = omega (arith, h.held.logging.few, scores_most job (length ps) (λ d. t));
+            sized = record { starts_sized = h.held.working.start_sized; finishes_sized = h.held.working.finish_sized };
           }

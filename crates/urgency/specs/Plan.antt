@@ -31,7 +31,7 @@ pub record Planned (J : Job) (n : ℕ) (desks starts finishes pieces froms until
   pub runs_are : (d : ℕ) → d < 32 → logged_runs desks pieces froms untils count d ≡ runs J d
   pub inside : (k : ℕ) → k < count → get_or pieces k 0 < n
   pub few : count ≤ n + n
-  pub sized : Sized starts finishes pieces froms untils
+  pub sized : Sized starts finishes
 
 -- The pieces' tables before the first slot.
 pub record Begun (n : ℕ) (durations releases left ready starts finishes : List ℕ) : Type 0 where

@@ -1,11 +1,12 @@
 -- `begin` goes over the pieces. The loop's invariant: the first i places of the tables are as before the first slot.
-use Prim.Native.Nat.{◌≤◌, ◌-◌}
+use Rattle.rules.specs.Tables.{durations_of, releases_of, starts_of, finishes_of}
+use Rattle.steps.specs.Keys.{Keyed}
+use Rattle.steps.specs.States.{keys_of, left_of, ready_of}
 use Rattle.urgency.specs.Plan.{Begun}
 use Rattle.urgency.proofs.begin.Given as goal
 
 abbrev pub invariant-loop-i : goal.invariant-loop-i
 invariant-loop-i l =
-    (l.i ≤ l.n) × Begun l.i l.durations l.releases l.left l.ready l.start l.finish
-
-abbrev pub decreases-loop-i : goal.decreases-loop-i
-decreases-loop-i l = l.n - l.i
+    Begun l.i (durations_of l.pieces) (releases_of l.pieces) (left_of l.states) (ready_of l.states) (starts_of l.spans)
+    (finishes_of l.spans)
+    × Keyed l.i l.latests (keys_of l.states)
