@@ -1,3 +1,3 @@
--- Laws of rows judged one after another, and of the words of their records.
+-- Laws of rows judged one after another, and of the numbers in them.
+pub mod Chunks
 pub mod InTurn
-pub mod Records

@@ -1,27 +1,23 @@
--- What the judgement of a form tells of its rows: nothing is wrong with them (number 0), or the first refusal met.
-use Rattle.std.specs.Prelude.{ℕ, ◌/◌, List, [], ◌++◌, map, ◌≡◌, length}
+-- What the judgement of a form tells of its rows: nothing is wrong with them, or the first refusal met.
+use Rattle.std.specs.Prelude.{ℕ, ◌+◌, List, ◌++◌, map, ◌≡◌, length, Result, Ok, Err}
 use Rattle.rules.specs.Words.{below}
-use Rattle.rules.specs.Job.{Job, Outcome, refused, accepted, empty_job}
-use Rattle.rules.specs.Form.{piece_row, link_row, take_all}
-use Rattle.rules.specs.Answers.{Item, Work, Tie, Refusal}
+use Rattle.rules.specs.Job.{Job, Outcome, refused, piece_count}
+use Rattle.rules.specs.Form.{take_all}
+use Rattle.rules.specs.Told.{refusal_of}
+use Rattle.rules.specs.Answers.{Item}
+use Rattle.rules.specs.declared.fault.Refusal.{Refusal}
+use Rattle.judge.specs.declared.Counts.{Counts}
 
--- An outcome told in one refusal: number 0 says that it is this one, any other number that it is that refusal.
-pub record Told (o fine : Outcome) (r : Refusal) : Type 0 where
-  pub taken : r.number ≡ 0 → o ≡ fine
-  pub stopped : (r.number ≡ 0 → ⊥) → o ≡ refused r
+-- An outcome told in a judgement: this one where nothing is wrong, and else the refusal.
+abbrev pub outcome_or : Result Unit Refusal → Outcome → Outcome
+outcome_or (Ok _) fine = fine
+outcome_or (Err r) fine = refused (refusal_of r)
 
--- The first n pieces of the form, and its first m links behind them.
-abbrev pub first_rows : List ℕ → List ℕ → ℕ → ℕ → Job
-first_rows pieces links n m = record { pieces = map (piece_row pieces) (below n); links = map (link_row links) (below m) }
-
--- The rows of pieces, whatever is offered behind them.
-abbrev pub PiecesTold : List ℕ → Refusal → Type 0
-PiecesTold rows r = (xs : List Item) → Told
-    (take_all (map (λ i. Work (piece_row rows i)) (below (length rows / 4)) ++ xs) 0 empty_job)
-    (take_all xs (length rows / 4) (first_rows rows [] (length rows / 4) 0)) r
-
--- The rows of links behind n pieces.
-abbrev pub LinksTold : ℕ → List ℕ → Refusal → Type 0
-LinksTold n rows r = (pieces : List ℕ) → Told
-    (take_all (map (λ k. Tie (link_row rows k)) (below (length rows / 3)) ++ []) n (first_rows pieces [] n 0))
-    (accepted (first_rows pieces rows n (length rows / 3))) r
+-- n rows of one kind behind any job of so many pieces and links, whatever is offered behind them: they are all taken, or
+-- this is the refusal.
+abbrev pub RowsJudged : {E : Type 0} → (E → Item) → (List ℕ → ℕ → E) → (Job → List E → Job) → List ℕ → ℕ → Counts
+    → Result Unit Refusal → Type 0
+RowsJudged item row_of added rows n before result =
+    (J : Job) (xs : List Item) → piece_count J ≡ before.pieces → length J.links ≡ before.links
+    → take_all (map (λ i. item (row_of rows i)) (below n) ++ xs) (before.pieces + before.links) J
+    ≡ outcome_or result (take_all xs (before.pieces + before.links + n) (added J (map (row_of rows) (below n))))

@@ -3,5 +3,6 @@
 // that one too large for its field is refused and never cut.
 #![tactic(auto)]
 
+pub mod kinds;
+pub mod row;
 pub mod rows;
-pub mod values;

@@ -7,6 +7,10 @@ use Rattle.rules.specs.Told.{number_of}
 use Rattle.rules.specs.Reading.{first_fault, kind_fault, order_fault, value_fault, zero_fault, record_fault}
 use Rattle.rules.specs.declared.fault.Fault.{Fault}
 
+-- A fault has a number on the list.
+pub is_fault : (fault : Fault) → number_of fault ≡ 0 → ⊥
+is_fault fault e = search rules
+
 pub decides : (fault : Fault) (n later : ℕ) → number_of fault ≡ n → number_of fault ≡ first_fault n later
 unfolding first_fault
 decides fault n later e = search rules
