@@ -9,7 +9,7 @@ pub mod kinds;
 pub mod values;
 
 /// How many pieces and links stand before a record: all that its judgement looks at of what was read before it.
-#[derive(Clone, Copy, Debug, Default, PartialEq, Eq)]
+#[derive(Clone, Copy, Debug, PartialEq, Eq)]
 pub struct Counts {
     pub pieces: usize,
     pub links: usize,

@@ -1,70 +1,55 @@
 // The job file of a form, in a lent buffer. Everything is judged before the first byte is written.
 ghost use Rattle.std.specs.Prelude.{◌≡◌};
+ghost use Rattle.rules.specs.Job.{accepted};
+ghost use Rattle.rules.specs.Form.{form_job, form_outcome};
+ghost use Rattle.rules.specs.Told.{write_answer_told};
 ghost use Rattle.demands.specs.Promises.{WritePromise};
-ghost use Rattle.writer.specs.Judged.{FormTold, refused_answer};
+ghost use Rattle.forms.specs.Judged.{outcome_or};
 
-use forms::rows::{judge_links, judge_pieces, put_links, put_pieces};
-use rules::{Refusal, WriteAnswer};
-
-// A refused call: its number and place, every other number of the answer zero.
-fn refused(refusal: Refusal) -> WriteAnswer
-    ensures { result ≡ refused_answer refusal }
-{
-    WriteAnswer {
-        number: refusal.number,
-        place: refusal.place,
-        bytes: 0,
-    }
-}
+use forms::rows::{judge_rows, put_rows};
+use judge::Counts;
+use rules::fault::{Fault, Refusal};
+use rules::{Link, Piece};
 
 // The form judged for itself: its rows in the order of the file, then 1, a row cut short.
-fn judge_form(pieces: &[u32], links: &[u32]) -> Refusal
-    ensures { FormTold pieces.now links.now result }
+fn judge_form(pieces: &[u32], links: &[u32]) -> Result<(), Refusal>
+    ensures { form_outcome pieces.now links.now ≡ outcome_or result (accepted (form_job pieces.now links.now)) }
 {
-    let of_pieces = judge_pieces(pieces);
-    if of_pieces.number != 0 {
-        return of_pieces;
-    }
-    let rows = pieces.len() / 4;
-    let of_links = judge_links(rows, links);
-    if of_links.number != 0 {
-        return of_links;
-    }
+    let front = Counts {
+        pieces: 0,
+        links: 0,
+    };
+    judge_rows::<4, Piece>(pieces, front)?;
+    let behind = Counts {
+        pieces: pieces.len() / 4,
+        links: 0,
+    };
+    judge_rows::<3, Link>(links, behind)?;
     let left = pieces.len() % 4 + links.len() % 3;
     if left != 0 {
-        return Refusal {
-            number: 1,
-            place: (rows + links.len() / 3) as u64,
-        };
+        return Err(Refusal {
+            fault: Fault::BytesLeft,
+            place: (behind.pieces + links.len() / 3) as u64,
+        });
     }
-    Refusal {
-        number: 0,
-        place: 0,
-    }
+    Ok(())
 }
 
-// THE WRITER: takes every form and every lent buffer, and answers or refuses by a number on the list.
-pub fn write_file(pieces: &[u32], links: &[u32], buffer: &mut [u8]) -> WriteAnswer
-    ensures { WritePromise pieces.now links.now buffer.old result
-        buffer.new }
+/// THE WRITER: takes every form and every lent buffer, and answers the bytes of the file or refuses by a fault on the
+/// list.
+pub fn write_file(pieces: &[u32], links: &[u32], buffer: &mut [u8]) -> Result<u32, Refusal>
+    ensures { WritePromise pieces.now links.now buffer.old (write_answer_told result) buffer.new }
 {
-    let fault = judge_form(pieces, links);
-    if fault.number != 0 {
-        return refused(fault);
-    }
+    judge_form(pieces, links)?;
     let behind = 16 * (pieces.len() / 4);
     let bytes = behind + 16 * (links.len() / 3);
     if buffer.len() < bytes {
-        return refused(Refusal {
-            number: 14,
+        return Err(Refusal {
+            fault: Fault::NoRoomForFile,
             place: 0,
         });
     }
-    put_pieces(pieces, buffer);
-    put_links(links, behind, buffer);
-    WriteAnswer {
-        number: 0,
-        place: 0,
-        bytes: bytes as u32,
-    }
+    put_rows::<4, Piece>(pieces, 0, buffer);
+    put_rows::<3, Link>(links, behind, buffer);
+    Ok(bytes as u32)
 }

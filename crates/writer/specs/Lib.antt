@@ -1,2 +1,0 @@
--- What the contracts of the writer cite besides the rules.
-pub mod Judged
