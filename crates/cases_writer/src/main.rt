@@ -6,50 +6,41 @@
 
 ghost use Rattle.std.specs.Prelude.{◌*◌, ◌≤◌, length};
 
-use rules::WriteAnswer;
+use rules::fault::Refusal;
 use std::io;
 use writer::file::write_file;
 
-fn print_field(rt: &impl Print, word: &str, n: u64) -> io::Result<()> {
-    print!(rt; "{word}{n}")
-}
-
-fn end_line(rt: &impl Print) -> io::Result<()> {
-    println!(rt; "")
-}
-
 // How the case was answered, behind its name.
-fn print_answer(rt: &impl Print, answer: WriteAnswer) -> io::Result<()> {
-    if answer.number == 0 {
-        print_field(rt, " written: bytes ", answer.bytes as u64)?;
-    } else {
-        print_field(rt, " refused ", answer.number as u64)?;
-        print_field(rt, " at ", answer.place)?;
+fn print_answer(rt: &impl Print, answer: Result<u32, Refusal>) -> io::Result<()> {
+    match answer {
+        Ok(bytes) => println!(rt; " written: bytes {bytes}"),
+        Err(refusal) => {
+            let fault = u8::from(refusal.fault);
+            let place = refusal.place;
+            println!(rt; " refused {fault} at {place}")
+        }
     }
-    end_line(rt)
 }
 
 // All bytes of a buffer.
 fn print_bytes(rt: &impl Print, buffer: &[u8]) -> io::Result<()> {
-    let mut k = 0;
-    while k < buffer.len() {
-        print_field(rt, " ", buffer[k] as u64)?;
-        k += 1;
+    for byte in buffer {
+        print!(rt; " {byte}")?;
     }
-    end_line(rt)
+    println!(rt; "")
 }
 
 // A form in a lent buffer.
 fn try_form(
     rt: &impl Print,
     name: &str,
-    value: u64,
+    value: usize,
     pieces: &[u32],
     links: &[u32],
     buffer: &mut [u8],
 ) -> io::Result<()> {
     let answer = write_file(pieces, links, buffer);
-    print_field(rt, name, value)?;
+    print!(rt; "{name}{value}")?;
     print_answer(rt, answer)
 }
 
@@ -57,56 +48,30 @@ fn try_form(
 fn try_sheet(rt: &impl Print, buffer: &mut [u8]) -> io::Result<()> {
     let pieces = [0u32, 4, 0, 20, 0, 2, 1, 5, 1, 3, 0, 12];
     let links = [0u32, 2, 2];
-    try_form(
-        rt,
-        "P1 in a buffer of ",
-        buffer.len() as u64,
-        &pieces,
-        &links,
-        buffer,
-    )?;
+    let room = buffer.len();
+    try_form(rt, "P1 in a buffer of ", room, &pieces, &links, buffer)?;
     print_bytes(rt, buffer)
 }
 
 // A form of one piece.
-fn try_piece(
-    rt: &impl Print,
-    name: &str,
-    value: u32,
-    desk: u32,
-    duration: u32,
-    release: u32,
-    due: u32,
-) -> io::Result<()> {
-    let pieces = [desk, duration, release, due];
-    let links = [0u32; 3];
+fn try_piece(rt: &impl Print, name: &str, value: u32, piece: [u32; 4]) -> io::Result<()> {
     let mut buffer = [0u8; 16];
-    try_form(rt, name, value as u64, &pieces, &links[..0], &mut buffer)
+    try_form(rt, name, value as usize, &piece, &[], &mut buffer)
 }
 
 // A form of one piece and one link.
-fn try_link(
-    rt: &impl Print,
-    name: &str,
-    value: u32,
-    before: u32,
-    after: u32,
-    handover: u32,
-) -> io::Result<()> {
-    let pieces = [0u32, 1, 0, 0];
-    let links = [before, after, handover];
+fn try_link(rt: &impl Print, name: &str, value: u32, link: [u32; 3]) -> io::Result<()> {
+    let piece = [0u32, 1, 0, 0];
     let mut buffer = [0u8; 32];
-    try_form(rt, name, value as u64, &pieces, &links, &mut buffer)
+    try_form(rt, name, value as usize, &piece, &link, &mut buffer)
 }
 
 // So many rows of a piece of one slot on desk 0.
 fn fill_pieces(rows: &mut [u32], n: usize)
     requires { 4 * n ≤ length rows.old }
 {
-    let mut k = 0;
-    while k < n {
+    for k in 0..n {
         rows[4 * k + 1] = 1;
-        k += 1;
     }
 }
 
@@ -118,11 +83,11 @@ fn try_numbers(rt: &impl Print, pieces: usize, links: usize, room: usize) -> io:
     fill_pieces(&mut rows, 257);
     let tied = [0u32; 3075];
     let mut buffer = [0u8; 20480];
-    print_field(rt, "numbers ", pieces as u64)?;
+    print!(rt; "numbers {pieces}")?;
     try_form(
         rt,
         " and ",
-        links as u64,
+        links,
         &rows[..pieces],
         &tied[..links],
         &mut buffer[..room],
@@ -144,20 +109,22 @@ fn main(rt: HostRuntime) -> io::Result<()> {
     let mut less = [165u8; 63];
     try_sheet(&rt, &mut more)?;
     try_sheet(&rt, &mut less)?;
-    try_piece(&rt, "desk ", 31, 31, 1, 0, 0)?;
-    try_piece(&rt, "desk ", 32, 32, 1, 0, 0)?;
-    try_piece(&rt, "desk ", 256, 256, 1, 0, 0)?;
-    try_piece(&rt, "duration ", 960, 0, 960, 0, 0)?;
-    try_piece(&rt, "duration ", 961, 0, 961, 0, 0)?;
-    try_piece(&rt, "duration ", 0, 0, 0, 0, 0)?;
-    try_piece(&rt, "duration ", 65537, 0, 65537, 0, 0)?;
-    try_piece(&rt, "release ", 40000, 0, 1, 40000, 0)?;
-    try_piece(&rt, "release ", 40001, 0, 1, 40001, 0)?;
-    try_piece(&rt, "due ", 40000, 0, 1, 0, 40000)?;
-    try_piece(&rt, "due ", 40001, 0, 1, 0, 40001)?;
-    try_link(&rt, "handover ", 480, 0, 0, 480)?;
-    try_link(&rt, "handover ", 481, 0, 0, 481)?;
-    try_link(&rt, "piece before ", 1, 1, 0, 0)?;
-    try_link(&rt, "piece after ", 65536, 0, 65536, 0)?;
+    for desk in [31u32, 32, 256] {
+        try_piece(&rt, "desk ", desk, [desk, 1, 0, 0])?;
+    }
+    for duration in [960u32, 961, 0, 65537] {
+        try_piece(&rt, "duration ", duration, [0, duration, 0, 0])?;
+    }
+    for release in [40000u32, 40001] {
+        try_piece(&rt, "release ", release, [0, 1, release, 0])?;
+    }
+    for due in [40000u32, 40001] {
+        try_piece(&rt, "due ", due, [0, 1, 0, due])?;
+    }
+    for handover in [480u32, 481] {
+        try_link(&rt, "handover ", handover, [0, 0, handover])?;
+    }
+    try_link(&rt, "piece before ", 1, [1, 0, 0])?;
+    try_link(&rt, "piece after ", 65536, [0, 65536, 0])?;
     try_counts(&rt)
 }
