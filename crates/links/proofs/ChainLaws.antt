@@ -2,20 +2,18 @@
 -- link back, past exactly the links with its key.
 use Prim.Native.Nat.{ℕ, zero, suc, ◌+◌, ◌≤◌, ◌<◌}
 use mathlib.Core.Bool.{Bool, true, false}
-use mathlib.Core.List.Memᴰ.{head as here}
-use mathlib.Core.List.Memᴰ.{tail as there}
-use mathlib.Core.List.{List, [], ◌∷◌, Memᴰ as Mem}
+use mathlib.Core.List.{List}
 use mathlib.Core.Logic.{◌⊎◌, inl, inr}
 use mathlib.Core.Path.{◌≡◌, refl, sym, ap, ◌∙◌}
 use native.Mathlib.Numerals.{add-one}
 use native.Mathlib.Omega.{arith}
-use borrow.Author.Tests.{eqb-true, eqb-false, eq-eqb, ne_eqb, ltb-true, ltb-false}
+use borrow.Author.Tests.{eqb-true, eqb-false, ltb-true, ltb-false}
 use lib.Dec.{eqb, ltb}
 use lib.ListN.{length, get_or, set, length-set}
 use lib.Seq.{get_or-set_same, get_or-set_other}
 use Rattle.rules.specs.Words.{when}
 use Rattle.laws.proofs.Words.{by_test, when_true, when_false}
-use Rattle.links.specs.Chains.{last_with, places_with, Chained, ToChain}
+use Rattle.links.specs.Chains.{last_with, Chained, ToChain}
 use Rattle.links.proofs.Counting.{below_or_last}
 
 pub chained_none : (keys : List ℕ) (n : ℕ) (last prior : List ℕ) → ToChain keys n last → length last ≡ 256
@@ -79,53 +77,15 @@ module _ (keys : List ℕ) (i : ℕ) where
       (λ e. ap g (when_false _ (suc n) (last_with keys i n) e) ∙ chain_skip g n (λ k l. h k (omega arith))
       ∙ sym (h n (omega arith) (eqb-false (get_or keys n 0) i e)))
 
-  -- So the chain has exactly the places of the keys that are i, each once: its next place is the first of them, and goes
-  -- on with those below it.
-  places_skip : (k : ℕ) → (get_or keys k 0 ≡ i → ⊥) → places_with keys i (suc k) ≡ places_with keys i k
-  unfolding places_with
-  places_skip k e = when_false _ _ _ (ne_eqb (get_or keys k 0) i e)
-
-  chain_places : (n : ℕ) → places_with keys i n ≡ places_with keys i (last_with keys i n)
-  chain_places n = sym (chain_skip (places_with keys i) n (λ k l. places_skip k))
-
-  pub chain_end : (n : ℕ) → last_with keys i n ≡ 0 → places_with keys i n ≡ []
-  unfolding places_with
-  chain_end n h = chain_places n ∙ ap (places_with keys i) h
-
-  pub chain_next : (n k : ℕ) → last_with keys i n ≡ suc k → places_with keys i n ≡ k ∷ places_with keys i k
-  unfolding places_with
-  chain_next n k h =
-      chain_places n ∙ ap (places_with keys i) h ∙ when_true _ _ _ (eq-eqb (get_or keys k 0) i (chain_key n k h).1)
-
-  -- They are below n, and have that key; and all such are among them.
-  pub places_key : (n k : ℕ) → Mem k (places_with keys i n) → (k < n) × (get_or keys k 0 ≡ i)
-  unfolding places_with when
-  places_key zero k m = elim m [ ]
-  places_key (suc n) k m = go (eqb (get_or keys n 0) i) refl m (λ o. places_key n k o)
-    where
-      under : (k < n) × (get_or keys k 0 ≡ i) → (k < suc n) × (get_or keys k 0 ≡ i)
-      under w = (omega (arith, w.0), w.1)
-
-      first : get_or keys n 0 ≡ i → Mem k (n ∷ places_with keys i n)
-          → (Mem k (places_with keys i n) → (k < n) × (get_or keys k 0 ≡ i)) → (k < suc n) × (get_or keys k 0 ≡ i)
-      first e (here q) ih = (omega (arith, q), ap (λ x. get_or keys x 0) q ∙ e)
-      first e (there o) ih = under (ih o)
-
-      go : (b : Bool) → eqb (get_or keys n 0) i ≡ b → Mem k (when b (n ∷ places_with keys i n) (places_with keys i n))
-          → (Mem k (places_with keys i n) → (k < n) × (get_or keys k 0 ≡ i)) → (k < suc n) × (get_or keys k 0 ≡ i)
-      go true e o ih = first (eqb-true (get_or keys n 0) i e) o ih
-      go false e o ih = under (ih o)
-
-  pub key_places : (n k : ℕ) → k < n → get_or keys k 0 ≡ i → Mem k (places_with keys i n)
-  unfolding places_with when
-  key_places zero k l e = absurd (omega arith)
-  key_places (suc n) k l e = below_or_last k n l
-      (λ o. go (eqb (get_or keys n 0) i) (key_places n k o e))
-      (λ o. rw (eq-eqb (get_or keys n 0) i (ap (λ x. get_or keys x 0) (sym o) ∙ e), when) (here o))
-    where
-      go : (b : Bool) → Mem k (places_with keys i n) → Mem k (when b (n ∷ places_with keys i n) (places_with keys i n))
-      go true m = there m
-      go false m = m
+  -- No place of such a key among the first n is behind the last.
+  pub key_chain : (n k : ℕ) → k < n → get_or keys k 0 ≡ i → k < last_with keys i n
+  unfolding last_with
+  key_chain zero k l e = absurd (omega arith)
+  key_chain (suc n) k l e = by_test (eqb (get_or keys n 0) i)
+      (λ t. rw (t, when) (omega (arith, l)))
+      (λ t. rw (t, when) (below_or_last k n l
+      (λ o. key_chain n k o e)
+      (λ o. absurd (eqb-false (get_or keys n 0) i t (ap (λ x. get_or keys x 0) (sym o) ∙ e)))))
 
 -- A walk along the chain of i, before the link of the code `at`: the links of i from `bound` on are behind it.
 pub record OnChain (keys : List ℕ) (i n at bound : ℕ) : Type 0 where
@@ -140,25 +100,15 @@ module _ {keys : List ℕ} {n : ℕ} {last prior : List ℕ} (C : Chained keys n
   on_most {at} {bound} W = omega (arith, W.here_is, W.within, chain_most keys i bound)
 
   -- At the end of the chain all links of i are behind.
-  module _ {bound : ℕ} (W : OnChain keys i n 0 bound) where
-    pub on_end : places_with keys i bound ≡ []
-    on_end = chain_end keys i bound (sym W.here_is)
-
-    pub on_last : (j : ℕ) → get_or keys j 0 ≡ i → bound ≤ j
-    on_last j k = by_test (ltb j bound)
-        (λ l. no_place (rw on_end at (key_places keys i bound j (ltb-true j bound l) k)))
-        (λ l. ltb-false j bound l)
-      where
-        no_place : Mem j [] → bound ≤ j
-        no_place m = elim m [ ]
+  pub on_last : {bound : ℕ} → OnChain keys i n 0 bound → (j : ℕ) → get_or keys j 0 ≡ i → bound ≤ j
+  on_last {bound} W j e = by_test (ltb j bound)
+      (λ l. absurd (omega (arith, W.here_is, key_chain keys i bound j (ltb-true j bound l) e)))
+      (λ l. ltb-false j bound l)
 
   -- At link k: it is one of i's, and the first of those that are left.
   module _ {k bound : ℕ} (W : OnChain keys i n (suc k) bound) where
     pub on_link : (k < n) × (get_or keys k 0 ≡ i)
     on_link = let w = chain_key keys i bound k (sym W.here_is) in (omega (arith, w.0, W.within), w.1)
-
-    pub on_first : places_with keys i bound ≡ k ∷ places_with keys i k
-    on_first = chain_next keys i bound k (sym W.here_is)
 
     next : get_or prior k 0 ≡ last_with keys i k
     next = C.goes_on k on_link.0 ∙ ap (λ x. last_with keys x k) on_link.1
@@ -172,9 +122,5 @@ module _ {keys : List ℕ} {n : ℕ} {last prior : List ℕ} (C : Chained keys n
     -- Of the links of i that are not further on, it is the only one not behind.
     pub on_or_behind : (j : ℕ) → get_or keys j 0 ≡ i → k ≤ j → (j ≡ k) ⊎ (bound ≤ j)
     on_or_behind j e h = by_test (ltb j bound)
-        (λ l. inl (first (rw on_first at (key_places keys i bound j (ltb-true j bound l) e))))
+        (λ l. inl (omega (arith, W.here_is, key_chain keys i bound j (ltb-true j bound l) e)))
         (λ l. inr (ltb-false j bound l))
-      where
-        first : Mem j (k ∷ places_with keys i k) → j ≡ k
-        first (here e) = e
-        first (there m) = absurd (omega (arith, h, (places_key keys i k j m).0))

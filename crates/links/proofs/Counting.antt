@@ -6,7 +6,7 @@ use native.Mathlib.Omega.{arith}
 use borrow.Author.Tests.{ltb-true, ltb-false}
 use lib.Dec.{ltb}
 use Rattle.rules.specs.Words.{when}
-use Rattle.laws.proofs.Words.{by_test, true_or_false}
+use Rattle.laws.proofs.Words.{by_test}
 use Rattle.links.specs.Links.{counted}
 
 -- A number below the next is below, or is it.
@@ -87,11 +87,6 @@ module _ (p : ℕ → Bool) where
 
   pub counted_all : (n : ℕ) → ((k : ℕ) → k < n → p k ≡ true) → counted p n ≡ n
   counted_all n h = counted_same p (λ k. true) n h ∙ all_pass n
-
-  pub none-counted : (n : ℕ) → counted p n ≡ 0 → (k : ℕ) → k < n → p k ≡ false
-  none-counted n h k l = by_test (p k)
-      (λ e. absurd (omega (arith, counted_lt (λ k. false) p n (λ j o x. true_or_false (sym x)) k l refl e)))
-      (λ e. e)
 
   pub all_counted : (n : ℕ) → counted p n ≡ n → (k : ℕ) → k < n → p k ≡ true
   all_counted n h k l = by_test (p k)

@@ -1,5 +1,5 @@
 -- Chains of links with the same key, as `Chains::chain` lays them: from the last such link back to the first.
-use Rattle.std.specs.Prelude.{ℕ, zero, suc, ◌≤◌, ◌<◌, List, [], ◌∷◌, ◌≡◌, eqb, length, get_or, Option, Some, None}
+use Rattle.std.specs.Prelude.{ℕ, zero, suc, ◌≤◌, ◌<◌, List, ◌≡◌, eqb, length, get_or, Option, Some, None}
 use Rattle.rules.specs.Words.{when}
 
 -- A place as the tables of the chains hold it: one more than the place, and 0 where there is none.
@@ -12,12 +12,6 @@ unfoldable pub last_with : List ℕ → ℕ → ℕ → ℕ
 unfolding when
 last_with keys i zero = 0
 last_with keys i (suc k) = when (eqb (get_or keys k 0) i) (suc k) (last_with keys i k)
-
--- The places of the keys that are i, among the first n, from the last to the first.
-unfoldable pub places_with : List ℕ → ℕ → ℕ → List ℕ
-unfolding when
-places_with keys i zero = []
-places_with keys i (suc k) = when (eqb (get_or keys k 0) i) (k ∷ places_with keys i k) (places_with keys i k)
 
 -- The chains of the first n keys, in tables for 256 pieces and 1,024 links.
 pub record Chained (keys : List ℕ) (n : ℕ) (last prior : List ℕ) : Type 0 where

@@ -19,7 +19,7 @@ pub fn count_into(links: &[Link], waits: &mut [u16; 256])
 }
 
 /// The pieces that wait for nothing, in the order of their numbers; how many.
-#[tactic(auto, using(crate::proofs::QueueLaws::queue_takes, crate::proofs::QueueLaws::queue_passes))]
+#[tactic(auto, using(crate::proofs::QueueLaws::queue_none, crate::proofs::QueueLaws::queue_most, crate::proofs::QueueLaws::queue_takes, crate::proofs::QueueLaws::queue_passes))]
 pub fn place_free(pieces: usize, waits: &[u16; 256], order: &mut [u16; 256]) -> usize
     requires { pieces ≤ 256 }
     ensures { Queue pieces result order.new waits.now }
@@ -34,7 +34,8 @@ pub fn place_free(pieces: usize, waits: &[u16; 256], order: &mut [u16; 256]) -> 
     placed
 }
 
-// The queue: `order[..placed]` holds the placed pieces, `waits[j]` is what piece j still waits for.
+// The queue: `order[..placed]` holds the placed pieces, `waits[j]` is what piece j still waits for. A table with a count
+// beside it and no list: once all pieces are placed it is the walk's table as it stands.
 #[derive(Drop)]
 pub(crate) struct Placing {
     pub(crate) order: [u16; 256],
