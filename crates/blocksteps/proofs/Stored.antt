@@ -88,7 +88,7 @@ seen_last p f runs x h e =
     touching_last p f runs h ∙ ap (λ (r : Stretch). eqb r.until f && eqb r.piece p) (sym e)
 
 -- A list written through a slice of it.
-pub written_through : (n : ℕ) (xs ws : List Stretch) → n ≡ length xs → length ws ≡ length xs → refill n xs ws ≡ ws
+pub written_through : {A : Type 0} (n : ℕ) (xs ws : List A) → n ≡ length xs → length ws ≡ length xs → refill n xs ws ≡ ws
 written_through n xs ws h k =
-    ap (λ (l : List Stretch). take n (ws ++ l)) (drop_all (length ws) xs (omega arith))
+    ap (λ l. take n (ws ++ l)) (drop_all (length ws) xs (omega arith))
     ∙ ap (take n) (append-nil ws) ∙ take_all n ws (omega arith)

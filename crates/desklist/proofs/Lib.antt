@@ -1,3 +1,3 @@
--- A desk's list filled, found to be in order, and its numbers taken.
+-- The list filled piece by piece; and when it is in order as it was filled.
 pub mod Filling
 pub mod Rising

@@ -1,2 +1,2 @@
--- The words of a desk's pieces in order.
+-- The words of one desk's entries in order.
 pub mod Ordered

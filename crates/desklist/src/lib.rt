@@ -1,4 +1,4 @@
-// The numbers of one desk's pieces in the order of their entries.
+// One desk's entries in order.
 #![tactic(auto)]
 
 pub mod order;
