@@ -1,4 +1,4 @@
-// The block method: sets cut into blocks and blocks solved, on lists of piece numbers and a board of stretches.
+// The block method: sets cut into blocks and blocks solved, on one desk's entries and a board of runs.
 #![tactic(auto)]
 
 pub mod sets;
