@@ -6,7 +6,7 @@ ghost use Rattle.rules.specs.Told.{number_of};
 ghost use Rattle.output.specs.Late.{Bounded};
 ghost use Rattle.lines.specs.Lines.{piece_text, run_text, total_text, refused_text};
 
-use numbers::lateness::lateness;
+use numbers::lateness;
 use records::lent::Lent;
 use rules::fault::Refusal;
 use rules::{PlanFigures, Run, Span};

@@ -4,7 +4,7 @@ ghost use Rattle.rules.specs.Words.{greatest, worst_of, below};
 ghost use Rattle.rules.specs.Tables.{finishes_of};
 ghost use Rattle.output.specs.Late.{Bounded, lateness_in};
 
-use numbers::lateness::lateness;
+use numbers::lateness;
 use rules::Span;
 
 /// The largest finish of so many pieces; 0 with no pieces.
