@@ -74,7 +74,8 @@ fn look_at(
     for &i in opened {
         let i = usize::from(i);
         let state = &states[i];
-        if t < state.ready {
+        let later = t < state.ready;
+        if later {
             next = next.min(state.ready);
             continue;
         }

@@ -109,7 +109,8 @@ impl Open {
         states[a].ready = states[a].ready.max(c + delay);
         let w = self.waits[a];
         self.waits[a] = w.saturating_sub(1);
-        if w == 1 {
+        let opens = w == 1;
+        if opens {
             self.table[self.count] = a as u16;
             self.place[a] = self.count as u16;
             self.count += 1;
@@ -144,7 +145,8 @@ impl Open {
         ensures only { OnlyReady states.old states.new }
         ensures hands { HandsOn job.now i states.old self.old self.new }
     {
-        if 0 < states[i].left {
+        let unfinished = 0 < states[i].left;
+        if unfinished {
             return;
         }
         self.close(i);

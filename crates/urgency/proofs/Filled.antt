@@ -25,22 +25,6 @@ filled T i x f b h e j l = by_test (eqb j i)
 
 -- The tables of the states and of the spans of the pieces.
 module _ (durations releases : List ℕ) (latests : List ℤ) (xs : List State) (ws : List Span) where
-  pub begun-none : length xs ≡ 256 → length ws ≡ 256
-      → Begun 0 durations releases (left_of xs) (ready_of xs) (starts_of ws) (finishes_of ws)
-  begun-none a b = record {
-    left_sized = length-map xs (λ x. x.left) ∙ a;
-    ready_sized = length-map xs (λ x. x.ready) ∙ a;
-    starts_sized = length-map ws (λ w. w.start) ∙ b;
-    finishes_sized = length-map ws (λ w. w.finish) ∙ b;
-    left_is = λ i h. absurd (omega arith);
-    ready_is = λ i h. absurd (omega arith);
-    start_is = λ i h. absurd (omega arith);
-    finish_is = λ i h. absurd (omega arith);
-  }
-
-  pub keyed_none : length xs ≡ 256 → Keyed 0 latests (keys_of xs)
-  keyed_none a = record { sized = length-map xs (λ x. x.key) ∙ a; each = λ i h. absurd (omega arith) }
-
   module _ (i : ℕ) (x : State) (w : Span) (small : i < 256) where
     stored : {A : Type 0} (f : A → ℕ) (l : List A) (y : A) (g : ℕ → ℕ) → length (map f l) ≡ 256
         → ((j : ℕ) → j < i → get_or (map f l) j 0 ≡ g j) → f y ≡ g i → (j : ℕ) → j < i + 1

@@ -31,13 +31,13 @@ piece c = get_or c.args.opened.now c.loop-i.i-index 0
 ready_is : (c : In-loop-i) → (get_or c.args.states.now (piece c) no_state).ready ≡ get_or (ready_of c.args.states.now) (piece c) 0
 ready_is c = sym (get_or-ready c.args.states.now (piece c))
 
-pub loop-i-preserved-then-t-state : goal.loop-i-preserved-then-t-state
-loop-i-preserved-then-t-state c left =
-    let start = (goal.at.loop-i-preserved-then-t-state c).Start in
-    let turn = (goal.at.loop-i-preserved-then-t-state c).In-loop-i in
+pub loop-i-preserved-then-later : goal.loop-i-preserved-then-later
+loop-i-preserved-then-later c left =
+    let start = (goal.at.loop-i-preserved-then-later c).Start in
+    let turn = (goal.at.loop-i-preserved-then-later c).In-loop-i in
     let l = c.loop-i in
     let table = c.args.opened.now in
-    let late = rw (c.from-i.ensures, ready_is turn) at c.if-t-state.true in
+    let late = rw (c.from-i.ensures, ready_is turn) at c.if-later.true in
     let least = rw (c.from-i.ensures, ready_is turn) at c.min-next.ensures in
     looked_later (seen start left) (Among table l.i-index) (Among table (l.i-index + 1)) (among_more table l.i-index)
     (piece turn) (among_last table l.i-index) (among_split table l.i-index) l.count l.best l.busy l.next _ late least
@@ -61,7 +61,7 @@ loop-i-preserved c left =
     let table = c.args.opened.now in
     let desk : c.from.result ≡ get_or (desks_of c.args.pieces.now) (piece turn) 0 =
     rw c.from-i.ensures at c.from.ensures ∙ sym (get_or-desks c.args.pieces.now (piece turn)) in
-    let ready = rw (c.from-i.ensures, ready_is turn) at c.if-t-state.false in
+    let ready = rw (c.from-i.ensures, ready_is turn) at c.if-later.false in
     let put = rw (c.from-i.ensures, ← (get_or-keys c.args.states.now (piece turn)), desk) at c.offer-count.ensures in
     looked_offered (seen start left) (Among table l.i-index) (Among table (l.i-index + 1)) (among_more table l.i-index)
     (piece turn) (among_last table l.i-index) (among_split table l.i-index)

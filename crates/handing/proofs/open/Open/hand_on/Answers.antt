@@ -12,16 +12,16 @@ use Rattle.handing.proofs.Passed.{unfinished_hands, finished_hands}
 use Rattle.handing.proofs.open.Open.hand_on.Goals.{Start}
 use Rattle.handing.proofs.open.Open.hand_on.Goals as goal
 
-pub returns-then-states-i-gt0-clause-ready_after : goal.returns-then-states-i-gt0-clause-ready_after
-returns-then-states-i-gt0-clause-ready_after c =
+pub returns-then-unfinished-clause-ready_after : goal.returns-then-unfinished-clause-ready_after
+returns-then-unfinished-clause-ready_after c =
     unfinished_hands (tied c.args.job.now) (length c.args.job.now.links.now) c.args.c (left_of c.args.states.now) c.args.i
     (waiting_in c.args.self.now c.args.states.now)
-    (rw (get_or-left c.args.states.now c.args.i) c.if-states-i-gt0.true)
+    (rw (get_or-left c.args.states.now c.args.i) c.if-unfinished.true)
 
-pub returns-then-states-i-gt0-clause-hands : goal.returns-then-states-i-gt0-clause-hands
-returns-then-states-i-gt0-clause-hands c =
+pub returns-then-unfinished-clause-hands : goal.returns-then-unfinished-clause-hands
+returns-then-unfinished-clause-hands c =
     let o = c.args.self.now in
-    let unfinished = rw (← (get_or-left c.args.states.now c.args.i)) at c.if-states-i-gt0.true in
+    let unfinished = rw (← (get_or-left c.args.states.now c.args.i)) at c.if-unfinished.true in
     record {
       opening = λ n U U' few one same is p.
           still_open n c.args.i o.count o.table o.place U U' o.waits c.requires.one.0 same
@@ -38,7 +38,7 @@ pass_on-requires-clause-room c =
 
 pub returns-clause-ready_after : goal.returns-clause-ready_after
 returns-clause-ready_after c =
-    let finished = rw (← (get_or-left c.args.states.now c.args.i)) at c.if-states-i-gt0.false in
+    let finished = rw (← (get_or-left c.args.states.now c.args.i)) at c.if-unfinished.false in
     finished_hands (tied c.args.job.now) (length c.args.job.now.links.now) c.args.c (left_of c.args.states.now) c.args.i
     (waiting_in c.args.self.now c.args.states.now) _ finished (rw c.close.ensures.waits at c.pass_on.ensures.ready_after)
 
@@ -46,7 +46,7 @@ pub returns-clause-hands : goal.returns-clause-hands
 returns-clause-hands c =
     let a = c.args in
     let after = rw c.close.ensures.waits at c.pass_on.ensures.opens in
-    let finished = rw (← (get_or-left a.states.now a.i)) at c.if-states-i-gt0.false in
+    let finished = rw (← (get_or-left a.states.now a.i)) at c.if-unfinished.false in
     record {
       opening = λ n U U' few one same is w.
           after.opening n U' few one (c.close.ensures.closes.opening n U U' a.self.now.waits few same

@@ -7,7 +7,7 @@ use Rattle.laws.proofs.Columns.{get_or-befores, get_or-afters}
 use Rattle.handing.specs.declared.job.Job.{Job}
 use Rattle.handing.proofs.Passed.{link_passed, ready_alone}
 use Rattle.handing.proofs.Opened.{link_waits, link_opens, room_left}
-use Rattle.handing.proofs.open.Open.pass.Goals.{After-from-a, Then-w-eq1}
+use Rattle.handing.proofs.open.Open.pass.Goals.{After-from-a, Then-opens}
 use Rattle.handing.proofs.open.Open.pass.Goals as goal
 
 -- The pieces before and after the link.
@@ -47,46 +47,46 @@ pub bounds-self-a-2 : goal.bounds-self-a-2
 bounds-self-a-2 c = after_few (goal.at.bounds-self-a-2 c).After-from-a
 
 -- There is a place behind the open pieces for one that waited for this link last.
-place_in : (c : Then-w-eq1) → c.args.self.now.count < 256
+place_in : (c : Then-opens) → c.args.self.now.count < 256
 place_in c =
     let o = c.args.self.now in
     let e : c.from-a.result ≡ get_or (afters_of c.args.job.now.links.now) c.args.k 0 =
     c.from-a.ensures ∙ sym (get_or-afters c.args.job.now.links.now c.args.k) in
     room_left c.args.k o.count _ o.table o.place o.waits c.from-a.result c.saturating_sub.result e c.saturating_sub.ensures
-    c.requires.room c.if-w-eq1.true
+    c.requires.room c.if-opens.true
 
 pub bounds-self-self : goal.bounds-self-self
-bounds-self-self c = place_in (goal.at.bounds-self-self c).Then-w-eq1
+bounds-self-self c = place_in (goal.at.bounds-self-self c).Then-opens
 
-pub overflow_cast-self-then-w-eq1 : goal.overflow_cast-self-then-w-eq1
-overflow_cast-self-then-w-eq1 c = omega (arith, place_in (goal.at.overflow_cast-self-then-w-eq1 c).Then-w-eq1)
+pub overflow_cast-self-then-opens : goal.overflow_cast-self-then-opens
+overflow_cast-self-then-opens c = omega (arith, place_in (goal.at.overflow_cast-self-then-opens c).Then-opens)
 
-pub returns-then-w-eq1-clause-ready_after : goal.returns-then-w-eq1-clause-ready_after
-returns-then-w-eq1-clause-ready_after c =
+pub returns-then-opens-clause-ready_after : goal.returns-then-opens-clause-ready_after
+returns-then-opens-clause-ready_after c =
     link_passed c.args.job.now c.args.k c.args.c c.args.self.now.waits c.args.states.now _ _ _ _ _ _ c.from-a.ensures
     c.from-b.ensures c.from.ensures c.delay-delay.ensures.0 c.saturating_sub.ensures c.max.ensures
 
-pub returns-then-w-eq1-clause-only : goal.returns-then-w-eq1-clause-only
-returns-then-w-eq1-clause-only c =
+pub returns-then-opens-clause-only : goal.returns-then-opens-clause-only
+returns-then-opens-clause-only c =
     ready_alone c.args.job.now c.args.k c.args.c c.args.self.now.waits c.args.states.now _ _
 
-pub returns-then-w-eq1-clause-opens : goal.returns-then-w-eq1-clause-opens
-returns-then-w-eq1-clause-opens c =
+pub returns-then-opens-clause-opens : goal.returns-then-opens-clause-opens
+returns-then-opens-clause-opens c =
     let o = c.args.self.now in
     link_opens c.args.k o.count _ o.table o.place o.waits c.from-a.result c.saturating_sub.result
-    (after (goal.at.returns-then-w-eq1-clause-opens c).After-from-a) c.saturating_sub.ensures c.requires.room c.if-w-eq1.true
+    (after (goal.at.returns-then-opens-clause-opens c).After-from-a) c.saturating_sub.ensures c.requires.room c.if-opens.true
 
-pub returns-else-w-eq1-clause-ready_after : goal.returns-else-w-eq1-clause-ready_after
-returns-else-w-eq1-clause-ready_after c =
+pub returns-else-opens-clause-ready_after : goal.returns-else-opens-clause-ready_after
+returns-else-opens-clause-ready_after c =
     link_passed c.args.job.now c.args.k c.args.c c.args.self.now.waits c.args.states.now _ _ _ _ _ _ c.from-a.ensures
     c.from-b.ensures c.from.ensures c.delay-delay.ensures.0 c.saturating_sub.ensures c.max.ensures
 
-pub returns-else-w-eq1-clause-only : goal.returns-else-w-eq1-clause-only
-returns-else-w-eq1-clause-only c =
+pub returns-else-opens-clause-only : goal.returns-else-opens-clause-only
+returns-else-opens-clause-only c =
     ready_alone c.args.job.now c.args.k c.args.c c.args.self.now.waits c.args.states.now _ _
 
-pub returns-else-w-eq1-clause-opens : goal.returns-else-w-eq1-clause-opens
-returns-else-w-eq1-clause-opens c =
+pub returns-else-opens-clause-opens : goal.returns-else-opens-clause-opens
+returns-else-opens-clause-opens c =
     let o = c.args.self.now in
     link_waits c.args.k o.count _ o.table o.place o.waits c.from-a.result c.saturating_sub.result
-    (after (goal.at.returns-else-w-eq1-clause-opens c).After-from-a) c.saturating_sub.ensures c.if-w-eq1.false
+    (after (goal.at.returns-else-opens-clause-opens c).After-from-a) c.saturating_sub.ensures c.if-opens.false
