@@ -1,59 +1,45 @@
--- `worst_lateness` meets its contract: the worst of the runs from place k on and the first is known.
-use Rattle.std.proofs.Common.{rules}
-use lib.IntN.{ℤ, pos, ◌-ℤ◌}
-use lib.ListN.{get_or}
-use mir.Val.{SFits}
-use Prim.Native.Nat.{suc, ◌-◌}
-use mathlib.Core.Path.{◌≡◌, sym, ap, ◌∙◌}
-use native.Mathlib.Omega.{arith}
-use mir.Syntax.{w32}
-use mir.Val.{to_z, of_z}
-use mir.Facts.{to_z-of_z}
-use Rattle.rules.specs.Words.{greater_z, worst_of, row, below}
+-- `worst_lateness` meets its contract: the worst of the first k runs and of the first one is known.
+use Rattle.std.proofs.Common.{◌≡◌, ◌∙◌, ap, get_or, pos, ◌-ℤ◌, ℤ, SFits, w32, to_z, of_z, rules, arith}
+use Rattle.std.specs.Int.{int_max}
+use Rattle.std.proofs.lemmas.Int.{to_z-of_z}
+use Rattle.rules.specs.Tables.{no_run}
+use Rattle.rules.specs.declared.Run.{Run}
 use Rattle.blockrows.specs.Rows.{late_in}
-use Rattle.blockrows.proofs.Worst.{back, WorstFrom, worst_none, worst_more, worst_all}
+use Rattle.blockrows.proofs.Worst.{back, worst_none, worst_more, worst_all, worst_nothing}
 use Rattle.blockrows.proofs.table.worst_lateness.Goals as goal
 
-pub returns-then-count-eq0 : goal.returns-then-count-eq0
-unfolding worst_of below row
-returns-then-count-eq0 c = rw c.if-count-eq0.true
+pub returns-in_default : goal.returns-in_default
+returns-in_default c =
+    let item = c.in_default.ensures.item in
+    worst_nothing (late_in c.args.latests.now) c.args.runs.now (omega (arith, item.3))
 
-pub loop-k-init : goal.loop-k-init
-loop-k-init c =
+pub loop-run-init : goal.loop-run-init
+loop-run-init c =
     let a = c.args in
-    let f : SFits w32 (get_or a.latests.now (get_or a.pieces.now 0 0) (pos 0)) =
-    record { sfits = search rules } in
-    let e : c.lateness-worst.result ≡ late_in a.latests.now a.pieces.now a.untils.now 0 =
-    c.lateness-worst.ensures ∙ ap (λ (z : ℤ). pos (get_or a.untils.now 0 0) -ℤ z) (to_z-of_z f) in (
-      omega arith,
-      omega arith,
-      back c.lateness-worst.result c.lateness-worst.type_inv ∙ e
-          ∙ worst_none (late_in a.latests.now a.pieces.now a.untils.now) a.count,
-    )
+    let r : Run = get_or a.runs.now 0 no_run in
+    let f : SFits w32 (get_or a.latests.now c.from.result (pos 0)) = record { sfits = search rules } in
+    let e = c.lateness-worst.ensures ∙ ap (λ (z : ℤ). pos c.in-Some.first.now.until -ℤ z) (to_z-of_z w32 _ f) in
+    back c.lateness-worst.result c.lateness-worst.type_inv
+    ∙ (rw (c.from.ensures, c.in-Some.ensures.item.3.1 no_run) at e)
+    ∙ worst_none (late_in a.latests.now) a.runs.now
 
-pub loop-k-preserved : goal.loop-k-preserved
-loop-k-preserved c =
+pub loop-run-preserved : goal.loop-run-preserved
+loop-run-preserved c =
     let a = c.args in
-    let s = c.loop-k in
-    let j = s.k - 1 in
-    let late = late_in a.latests.now a.pieces.now a.untils.now in
-    let f : SFits w32 (get_or a.latests.now (get_or a.pieces.now j 0) (pos 0)) =
-    record { sfits = search rules } in
-    let e : to_z w32 (of_z w32 c.lateness.result) ≡ late j =
-    back c.lateness.result c.lateness.type_inv ∙ c.lateness.ensures
-    ∙ ap (λ (z : ℤ). pos (get_or a.untils.now j 0) -ℤ z) (to_z-of_z f) in
-    let q : suc j ≡ s.k = omega arith in (
-      omega arith,
-      omega arith,
-      back c.greater-worst.result c.greater-worst.type_inv ∙ c.greater-worst.ensures
-          ∙ ap (λ (z : ℤ). greater_z z (to_z w32 s.worst-bits)) e
-          ∙ ap (greater_z (late j)) (s.invariant.2 ∙ ap (WorstFrom late a.count) (sym q))
-          ∙ worst_more late a.count j (omega arith),
-    )
+    let s = c.loop-run in
+    let k = s.run-index in
+    let r : Run = get_or a.runs.now k no_run in
+    let f : SFits w32 (get_or a.latests.now c.from-in-loop-run.result (pos 0)) = record { sfits = search rules } in
+    let e = c.lateness.ensures ∙ ap (λ (z : ℤ). pos r.until -ℤ z) (to_z-of_z w32 _ f) in
+    let late : to_z w32 (of_z w32 c.lateness.result) ≡ late_in a.latests.now r =
+    back c.lateness.result c.lateness.type_inv ∙ (rw c.from-in-loop-run.ensures at e) in
+    back c.max-worst.result c.max-worst.type_inv ∙ c.max-worst.ensures.value
+    ∙ ap (int_max (to_z w32 s.worst-bits)) late
+    ∙ ap (λ (z : ℤ). int_max z (late_in a.latests.now r)) s.invariant
+    ∙ worst_more (late_in a.latests.now) a.runs.now k c.loop-run-test.true
 
 pub returns : goal.returns
-returns c = let a = c.args in
-    let s = c.loop-k in
-    let late = late_in a.latests.now a.pieces.now a.untils.now in
-    let q : s.k ≡ 1 = omega arith in
-    s.invariant.2 ∙ ap (WorstFrom late a.count) q ∙ worst_all late a.count (omega arith)
+returns c =
+    let a = c.args in
+    c.loop-run.invariant
+    ∙ worst_all (late_in a.latests.now) a.runs.now c.loop-run.run-index c.in-Some.ensures.item.3.0 c.loop-run-test.false

@@ -1,13 +1,8 @@
--- `worst_lateness` meets its contract: the worst of the runs from place k on and the first is known.
-use Prim.Native.Nat.{◌≤◌}
-use mathlib.Core.Path.{◌≡◌}
+-- `worst_lateness` meets its contract: the worst of the first k runs and of the first one is known.
+use Rattle.std.proofs.Common.{◌≡◌}
 use Rattle.blockrows.specs.Rows.{late_in}
-use Rattle.blockrows.proofs.Worst.{WorstFrom}
+use Rattle.blockrows.proofs.Worst.{WorstTo}
 use Rattle.blockrows.proofs.table.worst_lateness.Given as goal
 
-abbrev pub invariant-loop-k : goal.invariant-loop-k
-invariant-loop-k l =
-    (1 ≤ l.k) × (l.k ≤ l.count) × (l.worst ≡ WorstFrom (late_in l.latests l.pieces l.untils) l.count l.k)
-
-abbrev pub decreases-loop-k : goal.decreases-loop-k
-decreases-loop-k l = l.k
+abbrev pub invariant-loop-run : goal.invariant-loop-run
+invariant-loop-run l = l.worst ≡ WorstTo (late_in l.latests) l.runs l.run-index
