@@ -12,7 +12,7 @@ use arrayvec::ArrayVec;
 use blocksteps::gather::gather_block;
 use entries::list::Entry;
 use method::BlockRow;
-use numbers::lateness::lateness;
+use numbers::lateness;
 use rules::Run;
 
 /// Puts a row for each block of the set into the list, by time.

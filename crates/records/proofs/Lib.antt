@@ -2,7 +2,6 @@
 pub mod FirstFrom
 pub mod StretchLaws
 pub mod Stores
-pub mod InARow
 pub mod TwosComplement
 pub mod Front
 pub mod PutLaws
