@@ -239,3 +239,6 @@ queue_takes n t order waits Q small z = rw (add-one, add-one) (queue_free n t or
 pub queue_passes : (n t : ℕ) (order waits : List ℕ) → Queue n t order waits → (get_or waits n 0 ≡ 0 → ⊥)
     → Queue (n + 1) t order waits
 queue_passes n t order waits Q h = rw add-one (queue_waiting n t order waits Q h)
+
+-- What a turn that finds its goals by itself is given.
+pub ruleset queue_steps = (queue_none, queue_most, queue_takes, queue_passes)

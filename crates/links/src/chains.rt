@@ -6,7 +6,8 @@ ghost use Rattle.links.specs.Chains.{Chained, ToChain, code_of};
 use rules::Link;
 
 /// The links of a job, chained: a walk goes from `first` along `next`, from the last link of a piece back to its first.
-// Both tables hold one more than a place, and 0 at the end of a chain: half the size of `Option<u16>`, and cleared by zeroes.
+// Both tables hold one more than a place, and 0 at the end of a chain: half the size of `Option<u16>`, and cleared by
+// zeroes.
 #[derive(Drop)]
 pub struct Chains {
     /// For each piece, the last link from it.

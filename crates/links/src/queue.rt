@@ -19,7 +19,7 @@ pub fn count_into(links: &[Link], waits: &mut [u16; 256])
 }
 
 /// The pieces that wait for nothing, in the order of their numbers; how many.
-#[tactic(auto, using(crate::proofs::QueueLaws::queue_none, crate::proofs::QueueLaws::queue_most, crate::proofs::QueueLaws::queue_takes, crate::proofs::QueueLaws::queue_passes))]
+#[tactic(auto, using(crate::proofs::QueueLaws::queue_steps))]
 pub fn place_free(pieces: usize, waits: &[u16; 256], order: &mut [u16; 256]) -> usize
     requires { pieces ≤ 256 }
     ensures { Queue pieces result order.new waits.now }

@@ -1,5 +1,5 @@
-// The ring check on the links: an order of the pieces in which every piece stands after the pieces before it, or the lowest
-// piece that leads by links back to itself. The search for that piece runs only where there is a ring.
+// The ring check on the links: an order of the pieces in which every piece stands after the pieces before it, or the
+// lowest piece that leads by links back to itself. The search for that piece runs only where there is a ring.
 ghost use Rattle.std.specs.Prelude.{◌≡◌, length, replicate};
 ghost use Rattle.rules.specs.Tables.{befores_of, afters_of};
 ghost use Rattle.rules.specs.Rings.{lowest_on_ring};
@@ -11,8 +11,8 @@ use crate::chains::Chains;
 use crate::queue::{Placing, count_into, place_free};
 use rules::Link;
 
-/// How the links are walked: from each piece by its chain, and from piece to piece in an order in which every piece stands
-/// after the pieces before it.
+/// How the links are walked: from each piece by its chain, and from piece to piece in an order in which every piece
+/// stands after the pieces before it.
 #[derive(Drop)]
 pub struct Walk {
     pub chains: Chains,

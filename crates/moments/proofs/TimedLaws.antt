@@ -158,7 +158,8 @@ module _ {ps : List Piece} {ls : List Link} {walk : Walk} (A : ToTime ps ls walk
   abbrev K : Job
   K = job_of ps ls
 
-  pub done_all : (moments : List ℤ) → Done ps ls walk 0 moments → (i : ℕ) → i < length ps → get_or moments i (pos 0) ≡ latest K i
+  pub done_all : (moments : List ℤ) → Done ps ls walk 0 moments
+      → (i : ℕ) → i < length ps → get_or moments i (pos 0) ≡ latest K i
   done_all moments d i l =
       let w = A.walkable.ordered.everyone i l in rw w.2 at (d w.0 (omega arith) w.1)
 

@@ -22,7 +22,7 @@ fn take_releases(pieces: &[Piece], table: &mut [u32; 256])
 }
 
 // What a piece leaves the piece after it: on one desk its own moment and its duration, else its finish and the handover.
-#[tactic(auto, using(laws::proofs::Words::when_true, laws::proofs::Words::when_false), unfolding(crate::specs::Planned::leaves))]
+#[tactic(auto, unfolding(rules::specs::Words::when, crate::specs::Planned::leaves))]
 fn leave(own: bool, moment: u32, lasting: u16, ending: u32, handing: u16) -> u32
     requires moment_bound { moment ≤ 1000000 }
     requires ending_bound { ending ≤ 1000000 }

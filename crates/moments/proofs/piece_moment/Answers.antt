@@ -12,7 +12,8 @@ use Rattle.rules.specs.Words.{lesser_z}
 use Rattle.rules.specs.Tables.{job_of, no_link}
 use Rattle.laws.proofs.Sound.{fits}
 use Rattle.moments.specs.Moments.{left_by}
-use Rattle.moments.proofs.TimedLaws.{timing_start, timing_place, timing_falls, timing_leave, timing_more, timing_end, int_min_is}
+use Rattle.moments.proofs.TimedLaws.{timing_start, timing_place, timing_falls, timing_leave, timing_more, timing_end}
+use Rattle.moments.proofs.TimedLaws.{int_min_is}
 use Rattle.moments.proofs.piece_moment.Goals.{After-min-least}
 use Rattle.moments.proofs.piece_moment.Goals as goal
 

@@ -4,12 +4,15 @@ use mathlib.Core.Path.{◌∙◌}
 use native.Mathlib.Omega.{arith}
 use lib.ListN.{length, get_or}
 use Rattle.rules.specs.Tables.{no_link}
-use Rattle.ready.proofs.Raising.{Rising, early, rising_none, rising_place, rising_after, rising_falls, code-asks, rising_more, rising_end}
+use Rattle.ready.proofs.Raising.{Rising, early, code-asks}
+use Rattle.ready.proofs.Raising.{rising_none, rising_place, rising_after, rising_falls, rising_more, rising_end}
 use Rattle.ready.proofs.raise.raise_from.Goals.{In-Some}
 use Rattle.ready.proofs.raise.raise_from.Goals as goal
 
 pub loop-at-init : goal.loop-at-init
-loop-at-init c = rising_none _ c.requires.planned c.requires.chained c.requires.one _ _ c.first-at.ensures c.requires.below
+loop-at-init c =
+    let p = c.requires in
+    rising_none _ p.planned p.chained p.one _ _ c.first-at.ensures p.below
 
 module _ (c : In-Some) where
   rising : Rising c.args.i c.args.pieces.now c.args.links.now c.args.table.now c.loop-at.table (suc c.in-Some.k)

@@ -21,7 +21,8 @@ pass_one-requires c =
     record {
       pieces = p.net.pieces;
       few = p.net.ties.few_pieces;
-      one = rw (c.from.ensures, ← (get_or-afters c.args.links.now c.in-Some.k)) (walk_link p.net.ties p.net.chained _ _ _ _ w);
+      one = rw (c.from.ensures, ← (get_or-afters c.args.links.now c.in-Some.k))
+          (walk_link p.net.ties p.net.chained _ _ _ _ w);
       queue = w.queue;
     }
 
@@ -41,4 +42,5 @@ loop-at-preserved c N one Q =
     (rw to at (c.pass_one.ensures N.pieces N.ties.few_pieces (rw to linked) w.queue))
 
 pub returns : goal.returns
-returns c N one Q = walk_end N.ties N.chained _ _ _ _ (rw c.in_default.is at (c.loop-at.invariant N one Q))
+returns c N one Q =
+    walk_end N.ties N.chained _ _ _ _ (rw c.in_default.is at (c.loop-at.invariant N one Q))
