@@ -54,8 +54,8 @@ pub record CountedTo (m : ℕ) (afters waits : List ℕ) : Type 0 where
   pub counts : (j : ℕ) → j < 256 → get_or waits j 0 ≡ links_to m afters j
 
 -- The queue of n pieces, and what it has become.
-abbrev pub Placed : ℕ → Placing → Type 0
-Placed n q = Queue n q.placed q.order q.waits
+abbrev pub IsQueue : ℕ → Placing → Type 0
+IsQueue n q = Queue n q.placed q.order q.waits
 
 abbrev pub PassedTo : ℕ → Placing → (ℕ → ℕ) → Placing → Type 0
 PassedTo n q less r = Passed n q.placed less q.order q.waits r.placed r.order r.waits
@@ -65,26 +65,26 @@ pub record ToPassOne (j : ℕ) (q : Placing) : Type 0 where
   pub pieces : ℕ
   pub few : pieces ≤ 256
   pub one : j < pieces
-  pub queue : Placed pieces q
+  pub queue : IsQueue pieces q
 
 abbrev pub PassedOne : ℕ → Placing → Placing → Type 0
-PassedOne j q r = (n : ℕ) → n ≤ 256 → j < n → Placed n q → PassedTo n q (λ x. when (eqb x j) 1 0) r
+PassedOne j q r = (n : ℕ) → n ≤ 256 → j < n → IsQueue n q → PassedTo n q (λ x. when (eqb x j) 1 0) r
 
 -- To pass every link from piece i, whatever the number of pieces.
 pub record ToPass (i : ℕ) (ls : List Link) (chains : Chains) (q : Placing) : Type 0 where
   pub net : Net ls chains
   pub one : i < net.pieces
-  pub queue : Placed net.pieces q
+  pub queue : IsQueue net.pieces q
 
 abbrev pub PassedOn : ℕ → List Link → Chains → Placing → Placing → Type 0
 PassedOn i ls chains q r =
-    (N : Net ls chains) → i < N.pieces → Placed N.pieces q
+    (N : Net ls chains) → i < N.pieces → IsQueue N.pieces q
     → PassedTo N.pieces q (links_between (length ls) (befores_of ls) (afters_of ls) i) r
 
 -- To pass every link from every piece in the queue, those placed on the way as well.
 pub record ToPassAll (ls : List Link) (chains : Chains) (q : Placing) : Type 0 where
   pub net : Net ls chains
-  pub queue : Placed net.pieces q
+  pub queue : IsQueue net.pieces q
 
 -- All links from the first h of the queue are passed; and what was placed on the way was placed for links from pieces
 -- that stand earlier in the queue.
@@ -97,5 +97,5 @@ pub record FirstPassed (n m : ℕ) (befores afters : List ℕ) (t : ℕ) (order 
 
 abbrev pub PassedAll : List Link → Chains → Placing → ℕ → Placing → Type 0
 PassedAll ls chains q h r =
-    (N : Net ls chains) → Placed N.pieces q
+    (N : Net ls chains) → IsQueue N.pieces q
     → FirstPassed N.pieces (length ls) (befores_of ls) (afters_of ls) q.placed q.order q.waits h r.placed r.order r.waits

@@ -3,7 +3,7 @@ use Prim.Native.Nat.{ℕ, ◌<◌, ◌≤◌}
 use mathlib.Core.Path.{◌≡◌, refl}
 use native.Mathlib.Omega.{arith}
 use lib.ListN.{get_or, replicate, get_or-replicate}
-use Rattle.links.specs.Queue.{Placed}
+use Rattle.links.specs.Queue.{IsQueue}
 use Rattle.links.proofs.QueueLaws.{queue_ones}
 use Rattle.links.proofs.Placing.{placed-via}
 use Rattle.links.proofs.rings.leads_back.Goals.{After-new-queue}
@@ -14,7 +14,7 @@ module _ (c : After-new-queue) (n : ℕ) (few : n ≤ 256) where
   ones : (i : ℕ) → i < n → get_or c.new-queue.result.waits i 0 ≡ 1
   ones i l = rw c.new-queue.ensures (get_or-replicate 256 i 1 0 (omega arith))
 
-  none_placed : Placed n c.new-queue.result
+  none_placed : IsQueue n c.new-queue.result
   none_placed =
       rw c.new-queue.ensures
       (queue_ones n (replicate 256 0) (replicate 256 1) refl refl (λ i l. get_or-replicate 256 i 1 0 (omega arith)))
