@@ -62,8 +62,10 @@ module _ (r : Run) (d : ℕ) (l : Log) where
   run_stored place k rs ws a b e =
       rw b (ap (λ xs. log xs l.last) (refilled k _) ∙ run_longer place k (rw a at e))
 
-  pub run_put : (place : Option ℕ) (k : ℕ) (rs ws : List Run) → ws ≡ l.runs → None ≡ goes_on_from ws place r → k ≡ length l.runs
-      → length l.runs < 512 → rs ≡ l.runs ++ r ∷ [] → log rs (set l.last d (Some k)) ≡ note_at r.from r.until place d r.piece l
+  pub run_put : (place : Option ℕ) (k : ℕ) (rs ws : List Run) → ws ≡ l.runs → None ≡ goes_on_from ws place r
+      → k ≡ length l.runs
+      → length l.runs < 512 → rs ≡ l.runs ++ r ∷ []
+      → log rs (set l.last d (Some k)) ≡ note_at r.from r.until place d r.piece l
   unfolding when
   run_put place k rs ws a e z h b =
       rw (b, z) (sym (when_true _ _ _ (lt-ltb (length l.runs) 512 h)) ∙ run_begins place (rw a at e))

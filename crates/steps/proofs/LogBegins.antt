@@ -154,7 +154,8 @@ module _ (J : Job) (sound : Sound J) (n : ℕ) (desks : List ℕ) (t u k : ℕ) 
         go : LastRun desks l d → ⊥
         go (inl y) = let z : runs_until J d t ≡ [] = sym was ∙ y.1 in none_or_some (rw z at o)
         go (inr w) =
-            let a : (run w).piece ≡ i = some_inj (sym (last_piece_lem (before w) (run w)) ∙ ap last_piece (sym (last_was w)) ∙ o) in
+            let a : (run w).piece ≡ i = some_inj
+            (sym (last_piece_lem (before w) (run w)) ∙ ap last_piece (sym (last_was w)) ∙ o) in
             let v = (under_way_lem J sound d t i o (worked_chosen J d t i q).waits.unfinished).on_time in
             let c : (run w).until ≡ t = sym (last_end_lem (before w) (run w)) ∙ ap last_end (sym (last_was w)) ∙ v in
             true_or_false (sym (going_on (run w) i t a c) ∙ anew w)
@@ -162,7 +163,12 @@ module _ (J : Job) (sound : Sound J) (n : ℕ) (desks : List ℕ) (t u k : ℕ) 
     one_more_fits : length now.runs ≤ scores J n (moment_of t u (also M d))
     one_more_fits =
         let r = run_rises J sound d t i q not_last in
-        omega (arith, one_more desks l t u d i own_desk, h.few, scores_rise J n t u k e p count M d new r.0 (rw count at r.1) r.2 r.3)
+        omega (
+          arith,
+          one_more desks l t u d i own_desk,
+          h.few,
+          scores_rise J n t u k e p count M d new r.0 (rw count at r.1) r.2 r.3,
+        )
 
     other_runs : (f : ℕ) → (f ≡ d → ⊥) → logged desks now f ≡ logged desks l f
     other_runs f ne = other_logged desks l t u d i own_desk f ne
@@ -196,7 +202,8 @@ module _ (J : Job) (sound : Sound J) (n : ℕ) (desks : List ℕ) (t u k : ℕ) 
     })
 
     -- What holds of the log's runs and of the new one holds of all.
-    each : (P : LogRun → Type 0) → ((j : ℕ) → j < length l.runs → P (get_or l.runs j no_run)) → P (fresh desks l t u d i own_desk)
+    each : (P : LogRun → Type 0) → ((j : ℕ) → j < length l.runs → P (get_or l.runs j no_run))
+        → P (fresh desks l t u d i own_desk)
         → (j : ℕ) → j < length now.runs → P (get_or now.runs j no_run)
     each P f g j c = by_test (ltb j (length l.runs))
         (λ z. let o = ltb-true j (length l.runs) z in rw (older desks l t u d i own_desk j o) (f j o))

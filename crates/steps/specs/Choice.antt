@@ -1,5 +1,5 @@
 -- One decision over the tables: who every desk works on from a moment on, and the next moment at which something is
--- decided anew. 256 stands for no piece, and 4,294,967,295 for no later moment.
+-- decided anew. 4,294,967,295 stands for no later moment.
 use Rattle.std.specs.Prelude.{ℕ, zero, suc, ◌+◌, ◌≤◌, ◌<◌, min, List, ◌⊎◌, ◌≡◌, length, get_or}
 use Rattle.steps.specs.Opening.{Among}
 

@@ -24,7 +24,8 @@ module _ (t next : ℕ) where
   -- Desk d works on piece i from moment t until moment `next`: its last run goes on, or a run begins.
   abbrev pub lengthened : ℕ → Log → Log
   lengthened k l =
-      log (set l.runs k (record { piece = (get_or l.runs k no_run).piece; from = (get_or l.runs k no_run).from; until = next }))
+      log
+      (set l.runs k (record { piece = (get_or l.runs k no_run).piece; from = (get_or l.runs k no_run).from; until = next }))
       l.last
 
   abbrev pub begun : ℕ → ℕ → Log → Log

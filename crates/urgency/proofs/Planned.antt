@@ -61,6 +61,28 @@ module _ (ps : List Piece) (ls : List Link) (keys : List ℕ) where
     pub opening : OpenIn (length ps) (unfinished (left_of x.states)) x.opened
     pub keys_same : keys_of x.states ≡ keys
 
+  -- What a decision at moment t says of the next one.
+  pub record Turn (t : ℕ) (x : Standing) (ws : List Span) (rs : List Run) (count : ℕ) (chosen busy : List ℕ) (next : ℕ)
+      : Type 0 where
+    pub ahead : t < next
+    pub within : next < never → next ≤ horizon job
+    pub small : next < never → next ≤ 408160
+    pub working : Working count chosen busy x.opened.count x.opened.table
+    pub inside : (q : ℕ) → q < count → whom chosen busy q < length ps
+    pub goes_on : next < never → (x' : Standing) (ws' : List Span) (rs' : List Run)
+        → work (left_of x'.states) (starts_of ws') (finishes_of ws')
+        ≡ work_to (durations_of ps) t next chosen busy count (work (left_of x.states) (starts_of ws) (finishes_of ws))
+        → log rs' x'.lasts.places ≡ note_to t next chosen busy count (log rs x.lasts.places)
+        → waiting_in x'.opened x'.states
+        ≡ hand_to (ties T.desks T.befores T.afters T.handovers) (length ls) next (left_of x'.states) chosen busy count
+        (waiting_in x.opened x.states)
+        → keys_of x'.states ≡ keys_of x.states
+        → OpenIn (length ps) (spent_to chosen busy (left_of x'.states) (unfinished (left_of x.states)) count) x'.opened
+        → StandsAt next x' ws' rs'
+    pub ends : next ≡ never
+        → Planned job (length ps) (desks_of ps) (starts_of ws) (finishes_of ws) (run_pieces rs) (run_froms rs)
+        (run_untils rs) (length rs)
+
   module _ (g : Ranked job (length ps) keys) where
     lists : Listed job T
     lists = listed ps ls keys g.key_is
@@ -87,7 +109,8 @@ module _ (ps : List Piece) (ls : List Link) (keys : List ℕ) where
     pub before_first : (x : Standing) (ws : List Span) (rs : List Run)
         → Begun (length ps) (durations_of ps) (releases_of ps) (left_of x.states) (ready_of x.states) (starts_of ws)
         (finishes_of ws)
-        → length x.opened.waits ≡ 256 → ((i : ℕ) → i < 256 → get_or x.opened.waits i 0 ≡ links_to (length ls) (afters_of ls) i)
+        → length x.opened.waits ≡ 256
+        → ((i : ℕ) → i < 256 → get_or x.opened.waits i 0 ≡ links_to (length ls) (afters_of ls) i)
         → length x.lasts.places ≡ 32 → ((d : ℕ) → d < 32 → get_or x.lasts.places d None ≡ None) → rs ≡ []
         → Held job (length ps) (desks_of ps) 0 (work (left_of x.states) (starts_of ws) (finishes_of ws))
         (waiting_in x.opened x.states) (log rs x.lasts.places)
@@ -169,17 +192,17 @@ module _ (ps : List Piece) (ls : List Link) (keys : List ℕ) where
           (among_opened x.opened.table opened x.opened.count fits_table is) count chosen busy next
           (rw h.keys_same at found)
 
-      pub next_ahead : t < next
+      next_ahead : t < next
       next_ahead =
           ahead job g.sound g.free T lists t w s l h.held x.opened.count x.opened.table x.opened.place h.opening count
           chosen busy next d
 
-      pub next_within : next < never → next ≤ horizon job
+      next_within : next < never → next ≤ horizon job
       next_within c =
           within job g.sound g.free T lists t w s l h.held x.opened.count x.opened.table x.opened.place h.opening count
           chosen busy next d c
 
-      pub next_small : next < never → next ≤ 408160
+      next_small : next < never → next ≤ 408160
       next_small c = omega (arith, next_within c, horizon_most job g.sound g.free)
 
       -- The pieces that the desks chose are open, and no two are one, since each stands on its own desk.
@@ -193,18 +216,18 @@ module _ (ps : List Piece) (ls : List Link) (keys : List ℕ) where
           go (inl z) = z.1
           go (inr z) = absurd (z.0 (q, b, refl))
 
-      pub working : Working count chosen busy x.opened.count x.opened.table
+      working : Working count chosen busy x.opened.count x.opened.table
       working = record {
         there = λ q b. (best q b).inside;
         apart = λ p q b k z. d.looked_at.working.once p q b k
             (sym (best p b).asks.0 ∙ ap (λ i. get_or (desks_of ps) i 0) z ∙ (best q k).asks.0);
       }
 
-      pub chosen_inside : (q : ℕ) → q < count → whom chosen busy q < length ps
+      chosen_inside : (q : ℕ) → q < count → whom chosen busy q < length ps
       chosen_inside q b = let m = (best q b).inside in rw m.2 at (h.opening.inside m.0 m.1)
 
       -- One step more, with what the code made of the tables.
-      pub stands_next : next < never → (x' : Standing) (ws' : List Span) (rs' : List Run)
+      stands_next : next < never → (x' : Standing) (ws' : List Span) (rs' : List Run)
           → work (left_of x'.states) (starts_of ws') (finishes_of ws') ≡ work_to (durations_of ps) t next chosen busy count w
           → log rs' x'.lasts.places ≡ note_to t next chosen busy count l
           → waiting_in x'.opened x'.states
@@ -236,7 +259,7 @@ module _ (ps : List Piece) (ls : List Link) (keys : List ℕ) where
           finished job g.sound g.free T lists t w s l h.held x.opened.count x.opened.table x.opened.place h.opening count
           chosen busy next d c
 
-      pub planned : next ≡ never
+      planned : next ≡ never
           → Planned job (length ps) (desks_of ps) (starts_of ws) (finishes_of ws) (run_pieces rs) (run_froms rs)
           (run_untils rs) (length rs)
       unfolding start finish
@@ -254,3 +277,14 @@ module _ (ps : List Piece) (ls : List Link) (keys : List ℕ) where
             few = omega (arith, h.held.logging.few, scores_most job (length ps) (λ d. t));
             sized = record { starts_sized = h.held.working.start_sized; finishes_sized = h.held.working.finish_sized };
           }
+
+      pub turn : Turn t x ws rs count chosen busy next
+      turn = record {
+        ahead = next_ahead;
+        within = next_within;
+        small = next_small;
+        working = working;
+        inside = chosen_inside;
+        goes_on = stands_next;
+        ends = planned;
+      }

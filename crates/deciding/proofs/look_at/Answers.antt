@@ -22,13 +22,15 @@ seen s left =
 pub loop-i-init : goal.loop-i-init
 loop-i-init c left =
     let a = c.args in
-    looked_none (seen (goal.at.loop-i-init c).Start left) a.opened.now a.best.now a.busy.now c.told-best c.told-busy c.requires.clear
+    looked_none (seen (goal.at.loop-i-init c).Start left) a.opened.now
+    a.best.now a.busy.now c.told-best c.told-busy c.requires.clear
 
 -- The piece that a turn looks at.
 abbrev piece : In-loop-i → ℕ
 piece c = get_or c.args.opened.now c.loop-i.i-index 0
 
-ready_is : (c : In-loop-i) → (get_or c.args.states.now (piece c) no_state).ready ≡ get_or (ready_of c.args.states.now) (piece c) 0
+ready_is : (c : In-loop-i)
+    → (get_or c.args.states.now (piece c) no_state).ready ≡ get_or (ready_of c.args.states.now) (piece c) 0
 ready_is c = sym (get_or-ready c.args.states.now (piece c))
 
 pub loop-i-preserved-then-later : goal.loop-i-preserved-then-later

@@ -15,7 +15,8 @@ loop-i-preserved c =
     let small : l.i < 256 = omega (arith, c.loop-i-test.true, c.requires.few) in (
       begun_more (durations_of ps) (releases_of ps) c.args.latests.now l.states l.spans l.i _ _ small
           (c.from-left.ensures ∙ sym (get_or-durations ps l.i)) (sym (get_or-releases ps l.i)) refl refl l.invariant.0,
-      keyed_more (durations_of ps) (releases_of ps) c.args.latests.now l.states l.spans l.i _ (record { start = 0; finish = 0 })
+      keyed_more (durations_of ps) (releases_of ps) c.args.latests.now l.states l.spans l.i _
+          (record { start = 0; finish = 0 })
           small (rw (to_z-of_z (fits_near _ (c.requires.near l.i c.loop-i-test.true))) at c.key_of-key.ensures)
           l.invariant.1,
     )

@@ -9,7 +9,7 @@ use Rattle.steps.specs.Opening.{unfinished}
 use Rattle.steps.specs.States.{keys_of, left_of}
 use Rattle.urgency.specs.Plan.{Ranked}
 use Rattle.urgency.proofs.Planned.{few, between, before_first, in_time, lookable, all_unfinished}
-use Rattle.urgency.proofs.Planned.{next_ahead, next_within, next_small, working, chosen_inside, stands_next, planned}
+use Rattle.urgency.proofs.Planned.{Turn, turn}
 use Rattle.urgency.proofs.Ranking.{given_near, given_ranked}
 use Rattle.urgency.proofs.plan.Goals.{After-begin, In-Some}
 use Rattle.urgency.proofs.plan.Goals as goal
@@ -69,7 +69,8 @@ decide-requires-clause-lookable c =
     let o = c.loop-next.standing.opened in
     rw c.loop-next.invariant.keys_same
     (lookable c.args.pieces.now c.args.links.now (keys start) (ranked start) o.count o.table o.place
-    (unfinished (left_of c.loop-next.standing.states)) o.waits c.pieces.result.now c.loop-next.invariant.opening c.pieces.ensures)
+    (unfinished (left_of c.loop-next.standing.states)) o.waits
+    c.pieces.result.now c.loop-next.invariant.opening c.pieces.ensures)
 
 pub decide-requires-clause-in_time : goal.decide-requires-clause-in_time
 decide-requires-clause-in_time c =
@@ -84,35 +85,37 @@ spend_all-requires-clause-linked c =
       chained = c.requires.chained;
     }
 
+-- What the decision says.
+module _ (c : In-Some) where
+  abbrev chosen : List ℕ
+  chosen = c.decide.new.self.chosen
+
+  abbrev busy : List ℕ
+  busy = c.decide.new.self.busy
+
+  said : (g : Ranked (job_of c.args.pieces.now c.args.links.now) (length c.args.pieces.now) (keys_of c.begin.new.states))
+      → Turn c.args.pieces.now c.args.links.now (keys_of c.begin.new.states) c.loop-next.t c.loop-next.standing
+      c.loop-next.spans c.loop-next.runs.items c.decide.new.self.count chosen busy c.in-Some.next
+  said g =
+      let l = c.loop-next in
+      turn c.args.pieces.now c.args.links.now (keys_of c.begin.new.states) g l.t l.standing l.spans l.runs.items l.invariant
+      c.pieces.result.now c.pieces.ensures c.decide.new.self.count chosen busy c.in-Some.next c.in-Some.ensures.decided
+
 pub spend_all-requires-clause-small : goal.spend_all-requires-clause-small
 spend_all-requires-clause-small c =
-    let start = (goal.at.spend_all-requires-clause-small c).After-begin in
-    let l = c.loop-next in
-    omega (
-      arith,
-      next_small c.args.pieces.now c.args.links.now (keys start) (ranked start) l.t l.standing l.spans l.runs.items l.invariant
-          c.pieces.result.now c.pieces.ensures c.decide.new.self.count c.decide.new.self.chosen c.decide.new.self.busy
-          c.in-Some.next c.in-Some.ensures.decided c.in-Some.ensures.later,
-    )
+    let w = goal.at.spend_all-requires-clause-small c in
+    omega (arith, (said w.In-Some (ranked w.After-begin)).small c.in-Some.ensures.later)
 
 pub spend_all-requires-clause-busy : goal.spend_all-requires-clause-busy
 spend_all-requires-clause-busy c = c.in-Some.ensures.decided.looked_at.working
 
 pub spend_all-requires-clause-inside : goal.spend_all-requires-clause-inside
 spend_all-requires-clause-inside c =
-    let start = (goal.at.spend_all-requires-clause-inside c).After-begin in
-    let l = c.loop-next in
-    chosen_inside c.args.pieces.now c.args.links.now (keys start) (ranked start) l.t l.standing l.spans l.runs.items l.invariant
-    c.pieces.result.now c.pieces.ensures c.decide.new.self.count c.decide.new.self.chosen c.decide.new.self.busy
-    c.in-Some.next c.in-Some.ensures.decided
+    let w = goal.at.spend_all-requires-clause-inside c in (said w.In-Some (ranked w.After-begin)).inside
 
 pub spend_all-requires-clause-working : goal.spend_all-requires-clause-working
 spend_all-requires-clause-working c =
-    let start = (goal.at.spend_all-requires-clause-working c).After-begin in
-    let l = c.loop-next in
-    working c.args.pieces.now c.args.links.now (keys start) (ranked start) l.t l.standing l.spans l.runs.items l.invariant
-    c.pieces.result.now c.pieces.ensures c.decide.new.self.count c.decide.new.self.chosen c.decide.new.self.busy
-    c.in-Some.next c.in-Some.ensures.decided
+    let w = goal.at.spend_all-requires-clause-working c in (said w.In-Some (ranked w.After-begin)).working
 
 pub spend_all-requires-clause-room : goal.spend_all-requires-clause-room
 spend_all-requires-clause-room c =
@@ -129,36 +132,26 @@ spend_all-requires-clause-room c =
 
 pub loop-next-smaller : goal.loop-next-smaller
 loop-next-smaller c =
-    let start = (goal.at.loop-next-smaller c).After-begin in
-    let l = c.loop-next in
-    omega (
-      arith,
-      next_ahead c.args.pieces.now c.args.links.now (keys start) (ranked start) l.t l.standing l.spans l.runs.items l.invariant
-          c.pieces.result.now c.pieces.ensures c.decide.new.self.count c.decide.new.self.chosen c.decide.new.self.busy
-          c.in-Some.next c.in-Some.ensures.decided,
-      next_within c.args.pieces.now c.args.links.now (keys start) (ranked start) l.t l.standing l.spans l.runs.items l.invariant
-          c.pieces.result.now c.pieces.ensures c.decide.new.self.count c.decide.new.self.chosen c.decide.new.self.busy
-          c.in-Some.next c.in-Some.ensures.decided c.in-Some.ensures.later,
-    )
+    let w = goal.at.loop-next-smaller c in
+    let m = said w.In-Some (ranked w.After-begin) in
+    omega (arith, m.ahead, m.within c.in-Some.ensures.later)
 
 pub loop-next-preserved : goal.loop-next-preserved
 loop-next-preserved c =
-    let start = (goal.at.loop-next-preserved c).After-begin in
-    let l = c.loop-next in
+    let w = goal.at.loop-next-preserved c in
+    let g = ranked w.After-begin in
     let ps = c.args.pieces.now in
     let ls = c.args.links.now in
     let moved = c.spend_all.ensures in
-    stands_next ps ls (keys start) (ranked start) l.t l.standing l.spans l.runs.items l.invariant
-    c.pieces.result.now c.pieces.ensures c.decide.new.self.count c.decide.new.self.chosen c.decide.new.self.busy
-    c.in-Some.next c.in-Some.ensures.decided c.in-Some.ensures.later c.spend_all.new.self c.spend_all.new.spans
+    (said w.In-Some g).goes_on c.in-Some.ensures.later c.spend_all.new.self c.spend_all.new.spans
     c.spend_all.new.runs.items moved.work_after moved.log_after moved.ready_after moved.keys_stay
-    (moved.opened_after (length ps) (unfinished (left_of l.standing.states)) (few ps ls (keys start) (ranked start))
-    (between ps ls (keys start) (ranked start)).after_one l.invariant.opening)
+    (moved.opened_after (length ps) (unfinished (left_of c.loop-next.standing.states))
+    (few ps ls (keys w.After-begin) g) (between ps ls (keys w.After-begin) g).after_one c.loop-next.invariant.opening)
 
 pub returns : goal.returns
 returns c =
     let start = (goal.at.returns c).After-begin in
     let l = c.loop-next in
-    planned c.args.pieces.now c.args.links.now (keys start) (ranked start) l.t l.standing l.spans l.runs.items l.invariant
+    (turn c.args.pieces.now c.args.links.now (keys start) (ranked start) l.t l.standing l.spans l.runs.items l.invariant
     c.pieces.result.now c.pieces.ensures c.decide.new.self.count c.decide.new.self.chosen c.decide.new.self.busy
-    never c.in_default.ensures.decided refl
+    never c.in_default.ensures.decided).ends refl

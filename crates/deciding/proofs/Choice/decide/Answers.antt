@@ -1,4 +1,4 @@
--- `decide` finds the least key for each desk, names the pieces and looks at their ends: together that is the whole decision.
+-- `decide` finds the least key for each desk, names the pieces and looks at their ends: that is the whole decision.
 use Rattle.std.specs.Prelude.{length}
 use Rattle.std.proofs.Common.{sym, ◌∙◌, arith}
 use Rattle.std.proofs.Math.ListN.{get_or-replicate}
@@ -27,10 +27,14 @@ first_end-next-requires-clause-t_le_next c =
 
 pub returns-then-next-clause-decided : goal.returns-then-next-clause-decided
 returns-then-next-clause-decided c =
-    decided (seen (goal.at.returns-then-next-clause-decided c).Start) (length c.args.pieces.now) c.args.opened.now c.requires.lookable _ _ _ _ _
-    (c.look_at-look.ensures (left_of c.args.states.now)) (omega arith) _ _ c.first_end-next.ensures.pieces (sym c.if-next.true ∙ c.first_end-next.ensures.end)
+    decided (seen (goal.at.returns-then-next-clause-decided c).Start) (length c.args.pieces.now) c.args.opened.now
+    c.requires.lookable _ _ _ _ _
+    (c.look_at-look.ensures (left_of c.args.states.now)) (omega arith) _ _ c.first_end-next.ensures.pieces
+    (sym c.if-next.true ∙ c.first_end-next.ensures.end)
 
 pub returns-else-next-clause-decided : goal.returns-else-next-clause-decided
 returns-else-next-clause-decided c =
-    decided (seen (goal.at.returns-else-next-clause-decided c).Start) (length c.args.pieces.now) c.args.opened.now c.requires.lookable _ _ _ _ _
-    (c.look_at-look.ensures (left_of c.args.states.now)) (omega arith) _ _ c.first_end-next.ensures.pieces c.first_end-next.ensures.end
+    decided (seen (goal.at.returns-else-next-clause-decided c).Start) (length c.args.pieces.now) c.args.opened.now
+    c.requires.lookable _ _ _ _ _
+    (c.look_at-look.ensures (left_of c.args.states.now)) (omega arith) _ _ c.first_end-next.ensures.pieces
+    c.first_end-next.ensures.end

@@ -54,7 +54,8 @@ hand_on-requires-clause-room c =
     let o = a.self.now.opened in
     let p = l.self.opened in
     spent_room (length a.job.now.links.now) (afters_of a.job.now.links.now) a.choice.now.count a.choice.now.chosen
-    a.choice.now.busy (done (goal.at.hand_on-requires-clause-room c).Start) o.count o.table o.place o.waits l.q p.count p.table p.place p.waits l.invariant.spent
+    a.choice.now.busy (done (goal.at.hand_on-requires-clause-room c).Start) o.count o.table o.place o.waits l.q p.count
+    p.table p.place p.waits l.invariant.spent
     c.requires.room
 
 pub loop-q-preserved : goal.loop-q-preserved

@@ -24,7 +24,8 @@ after : (c : After-from-a) → c.from-a.result ≡ target c
 after c = c.from-a.ensures ∙ sym (get_or-afters (job c).links.now c.args.k)
 
 after_few : (c : After-from-a) → c.from-a.result < 256
-after_few c = omega (arith, after c, c.requires.linked.between.after_one c.args.k c.requires.one.0, c.requires.linked.between.few_pieces)
+after_few c =
+    let b = c.requires.linked.between in omega (arith, after c, b.after_one c.args.k c.requires.one.0, b.few_pieces)
 
 pub bounds-job-b : goal.bounds-job-b
 bounds-job-b c =

@@ -21,7 +21,8 @@ loop-at-init c =
     )
 
 -- The chain stands at link k.
-stands : (c : In-Some) → OnChain (befores_of c.args.job.now.links.now) c.args.p (length c.args.job.now.links.now) (suc c.in-Some.k)
+stands : (c : In-Some)
+    → OnChain (befores_of c.args.job.now.links.now) c.args.p (length c.args.job.now.links.now) (suc c.in-Some.k)
     c.loop-at.invariant.0
 stands c = rw c.in-Some.is at c.loop-at.invariant.1
 
