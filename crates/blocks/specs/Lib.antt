@@ -1,3 +1,3 @@
--- The words of the block sheet's code: the desk's pieces in order, what the tables hold of a finished plan, the sheet.
+-- The words of the block sheet's code: what it is made of, and the links of one desk.
 pub mod Sheet
 pub mod Own

@@ -73,13 +73,17 @@ unfolding member_mark led_mark
 links_none marks ls es h =
     marks_same marks (member_mark es) (led_mark (linked_by []) es) h (λ i. rw (led_none es i, when))
 
-link_more : (ls : List Link) (k i j : ℕ) → k < length ls
+-- One link more at the end of the list.
+pub link_push : (ls : List Link) (l : Link) (i j : ℕ)
+    → linked_by (ls ++ (l ∷ [])) i j ≡ ((eqb l.before i && eqb l.after j) || linked_by ls i j)
+unfolding linked_by
+link_push ls l i j = one_of_snoc (λ (l : Link). eqb l.before i && eqb l.after j) ls l
+
+pub link_more : (ls : List Link) (k i j : ℕ) → k < length ls
     → linked_by (take (k + 1) ls) i j
     ≡ ((eqb (get_or ls k no_link).before i && eqb (get_or ls k no_link).after j) || linked_by (take k ls) i j)
-unfolding linked_by
 link_more ls k i j h =
-    ap (one_of (λ (l : Link). eqb l.before i && eqb l.after j)) (take_more ls k no_link h)
-    ∙ one_of_snoc (λ (l : Link). eqb l.before i && eqb l.after j) (take k ls) (get_or ls k no_link)
+    ap (λ (l : List Link). linked_by l i j) (take_more ls k no_link h) ∙ link_push (take k ls) (get_or ls k no_link) i j
 
 -- Piece i is led by link k to one of the list, or by an earlier one.
 led_more : (ls : List Link) (es : List Entry) (k i : ℕ) → k < length ls

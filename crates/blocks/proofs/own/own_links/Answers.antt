@@ -1,40 +1,33 @@
--- `own_links` meets its contract: after k links the tables hold those of the desk among them.
-use native.Mathlib.Omega.{arith}
-use Rattle.blocks.proofs.Owning.{own_none, own_more, from_elsewhere_lem, to_elsewhere}
+-- `own_links` meets its contract: after k links the list has those of the desk among them.
+use Rattle.std.proofs.Common.{◌∙◌, ap, arith}
+use Rattle.laws.proofs.Columns.{get_or-desks}
+use Rattle.blocks.proofs.Owning.{picked_more, picked_from, picked_to}
 use Rattle.blocks.proofs.own.own_links.Goals as goal
-use Rattle.blocks.proofs.own.own_links.Goals.{then-desks-b+then-desks-a, then-desks-b+else-desks-a, else-desks-b}
+use Rattle.blocks.proofs.own.own_links.Goals.{then-before-desk+then-after-desk, else-before-desk}
+use Rattle.blocks.proofs.own.own_links.Goals.{else-before-desk-via-then-before-desk+else-after-desk}
+use Rattle.blocks.proofs.own.own_links.Goals.{else-before-desk-via-else-before-desk}
 
-pub loop-k-init : goal.loop-k-init
-loop-k-init c = (
-  omega arith,
-  omega arith,
-  own_none _ _ _ _ _ _ c.requires.own_befores_len.0 c.requires.own_befores_len.1,
-)
-
-pub loop-k-preserved : goal.loop-k-preserved
-loop-k-preserved c =
-    let p = c.requires.tied in
-    let s = c.loop-k in
-    let kb = p.before_known s.k (omega arith) in
-    let ka = p.after_known s.k (omega arith) in
-    let o = s.invariant.2 in
-    elim c.if-desks-b.branch [
-      | then-desks-b+then-desks-a w ↦ (
-        omega arith,
-        omega (arith, w.count-is),
-        rw (w.own_befores-is, w.own_afters-is, w.count-is)
-            (own_more _ _ _ _ s.k _ _ _ o (omega (arith, p.few)) kb ka),
-      )
-      | then-desks-b+else-desks-a w ↦ (
-        omega arith,
-        omega (arith, w.count-is),
-        rw (w.own_befores-is, w.own_afters-is, w.count-is)
-            (to_elsewhere _ _ _ _ s.k _ _ _ o w.if-desks-a.false),
-      )
-      | else-desks-b w ↦ (
-        omega arith,
-        omega (arith, w.count-is),
-        rw (w.own_befores-is, w.own_afters-is, w.count-is)
-            (from_elsewhere_lem _ _ _ _ s.k _ _ _ o w.if-desks-b.false),
-      )
+pub loop-link-preserved : goal.loop-link-preserved
+loop-link-preserved c =
+    let s = c.loop-link in
+    let k = s.link-index in
+    let p = c.requires in
+    let ls = c.args.links.now in
+    let some = c.loop-link-test.true in
+    let kb = p.between.before_known k some in
+    let ka = p.between.after_known k some in
+    elim c.if-before-desk.branch [
+      | then-before-desk+then-after-desk w ↦
+          picked_more _ _ ls k s.own.items s.invariant some _ (ap (λ v. v.items) w.own-is ∙ w.push.ensures.items)
+          (omega (arith, kb, p.few.0)) (omega (arith, ka, p.few.0))
+      | else-before-desk w ↦
+          rw w.own-is
+          (elim w.else-before-desk.branch [
+            | else-before-desk-via-then-before-desk+else-after-desk v ↦
+                picked_to _ _ ls k s.own.items s.invariant some
+                (rw (get_or-desks c.args.pieces.now _) (rw c.from-in-loop-link.ensures at v.if-after-desk.false))
+            | else-before-desk-via-else-before-desk v ↦
+                picked_from _ _ ls k s.own.items s.invariant some
+                (rw (get_or-desks c.args.pieces.now _) (rw c.from.ensures at v.if-before-desk.false))
+          ])
     ]

@@ -1,11 +1,7 @@
--- `own_links` meets its contract: after k links the tables hold those of the desk among them.
-use Prim.Native.Nat.{◌-◌, ◌≤◌}
-use Rattle.blocks.specs.Own.{OwnLinks}
+-- `own_links` meets its contract: after k links the list has those of the desk among them.
+use Rattle.rules.specs.Tables.{desks_of}
+use Rattle.blocks.proofs.Owning.{Picked}
 use Rattle.blocks.proofs.own.own_links.Given as goal
 
-abbrev pub invariant-loop-k : goal.invariant-loop-k
-invariant-loop-k l =
-    (l.k ≤ l.m) × (l.count ≤ l.k) × OwnLinks l.desk l.desks l.k l.befores l.afters l.count l.own_befores l.own_afters
-
-abbrev pub decreases-loop-k : goal.decreases-loop-k
-decreases-loop-k l = l.m - l.k
+abbrev pub invariant-loop-link : goal.invariant-loop-link
+invariant-loop-link l = Picked l.desk (desks_of l.pieces) l.links l.link-index l.own.items

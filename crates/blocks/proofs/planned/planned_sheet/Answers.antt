@@ -1,24 +1,66 @@
--- `planned_sheet` meets its contract: the raised ready moments and the desk's links are what is missing of the entries.
-use Rattle.blocks.proofs.FromPlan.{laid_tied, laid_entered}
+-- `planned_sheet` meets its contract: the list of the desk's entries in order stands for its entries in order, cut and
+-- solved.
+use Rattle.std.proofs.Common.{◌∙◌, ap, length, arith}
+use Rattle.blockrows.proofs.Worst.{back}
+use Rattle.blocks.proofs.DeskSheet.{links_between, count, sheet_listed, sheet_rows, sheet_runs, sheet_dated, sheet_worst}
 use Rattle.blocks.proofs.planned.planned_sheet.Goals as goal
 
-pub own_links-own-requires-clause-tied : goal.own_links-own-requires-clause-tied
-own_links-own-requires-clause-tied c =
-    let w = c.requires.laid in
-    laid_tied w.0 _ _ _ _ _ _ _ _ _ _ w.1
+pub first_blocks-requires-clause-listed : goal.first_blocks-requires-clause-listed
+first_blocks-requires-clause-listed c =
+    let a = c.args in
+    rw c.deref.ensures.0
+    (sheet_listed a.pieces.now a.links.now _ _ c.requires.laid _ c.raised_moments.ensures a.desk _ c.desk_order.ensures)
 
-pub desk_sheet-requires-clause-entered : goal.desk_sheet-requires-clause-entered
-desk_sheet-requires-clause-entered c =
-    let raised = c.raised_moments in
-    let w = c.requires.laid in (
-      w.0,
-      laid_entered w.0 _ _ _ _ _ _ _ _ _ _ w.1 raised.new.table
-          (raised.ensures w.0 _ _ w.1.planned c.requires.walkable) _ _ _ _ c.own_links-own.ensures,
-    )
+pub own_links-requires-clause-between : goal.own_links-requires-clause-between
+own_links-requires-clause-between c =
+    links_between c.args.pieces.now c.args.links.now _ _ c.requires.laid
+
+pub cut_set-requires : goal.cut_set-requires
+cut_set-requires c =
+    let a = c.args in
+    let es = c.desk_order.new.entries.items in
+    let h = sheet_listed a.pieces.now a.links.now _ _ c.requires.laid _ c.raised_moments.ensures a.desk _
+    c.desk_order.ensures in
+    rw (c.deref-2.ensures.0, c.deref_mut.ensures.value) (record {
+      links = c.own_links.ensures.links;
+      listed = h;
+      room = omega (arith, h.few, ap length c.requires.no_runs);
+    })
+
+pub worst_lateness-requires : goal.worst_lateness-requires
+worst_lateness-requires c =
+    let a = c.args in
+    let cuts = rw (c.deref-2.ensures.0, c.deref_mut.ensures.value, c.requires.no_runs) at c.cut_set.ensures.cut_onto in
+    rw c.deref-3.ensures.0
+    (sheet_dated a.pieces.now a.links.now _ _ c.requires.laid _ c.raised_moments.ensures a.desk _ c.desk_order.ensures
+    _ c.own_links.ensures _ cuts)
 
 pub returns : goal.returns
-returns c J l =
-    let raised = c.raised_moments in
-    c.desk_sheet.ensures J
-    (laid_entered J _ _ _ _ _ _ _ _ _ _ l raised.new.table (raised.ensures J _ _ l.planned c.requires.walkable) _ _ _ _
-    c.own_links-own.ensures)
+returns c =
+    let a = c.args in
+    let es = c.desk_order.new.entries.items in
+    let pieces = count a.pieces.now a.links.now _ _ c.requires.laid _ c.raised_moments.ensures a.desk _
+    c.desk_order.ensures in
+    let cuts = rw (c.deref-2.ensures.0, c.deref_mut.ensures.value, c.requires.no_runs) at c.cut_set.ensures.cut_onto in
+    let worst = c.worst_lateness in
+    record {
+      blocks_are =
+          (rw c.deref.ensures.0 at c.first_blocks.ensures.blocks)
+          ∙ sheet_rows a.pieces.now a.links.now _ _ c.requires.laid _ c.raised_moments.ensures a.desk _ c.desk_order.ensures;
+      runs_are =
+          sheet_runs a.pieces.now a.links.now _ _ c.requires.laid _ c.raised_moments.ensures a.desk _ c.desk_order.ensures
+          _ c.own_links.ensures _ cuts;
+      worst_is =
+          back worst.result worst.type_inv ∙ (rw c.deref-3.ensures.0 at worst.ensures)
+          ∙ sheet_worst a.pieces.now a.links.now _ _ c.requires.laid _ c.raised_moments.ensures a.desk _
+          c.desk_order.ensures _ c.own_links.ensures _ cuts;
+      few_blocks = omega (arith, c.first_blocks.ensures.few, ap length c.deref.ensures.0, pieces);
+      few_runs =
+          omega (
+            arith,
+            c.cut_set.ensures.few,
+            ap length c.deref_mut.ensures.value,
+            ap length c.requires.no_runs,
+            pieces,
+          );
+    }
