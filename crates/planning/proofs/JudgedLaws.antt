@@ -1,101 +1,71 @@
 -- A job file judged for itself, by the cases of its reading and of the ring check.
-use Prim.Native.Nat.{ℕ}
-use mathlib.Core.List.{List}
-use mathlib.Core.Option.{none, some}
-use mathlib.Core.Path.{◌≡◌, refl, sym, ap, ◌∙◌}
-use native.Mathlib.Omega.{arith}
-use lib.ListN.{replicate, get_or-replicate}
-use Rattle.rules.specs.Rings.{ring_piece, lowest_on_ring}
-use Rattle.rules.specs.Judgement.{then_judge, unless_ring, file_outcome}
-use Rattle.rules.specs.Tables.{job_in}
+use Rattle.std.specs.Prelude.{ℕ, List, ◌≡◌, length, replicate, Result, Ok, Err, OnOk}
+use Rattle.std.proofs.Common.{refl, sym, ap, ◌∙◌}
+use Rattle.std.proofs.Math.ListN.{get_or-replicate}
+use Rattle.rules.specs.Job.{refused, accepted}
 use Rattle.rules.specs.Answers.{Refusal}
-use Rattle.reader.specs.Outcome.{ReadsJob}
-use Rattle.reader.specs.declared.Read.{Read}
-use Rattle.reader.specs.declared.Read.TheVariants.{Job, Refused}
-use Rattle.reader.proofs.Callers.{is_refused_lem, is_accepted, is_sound}
-use Rattle.links.specs.Links.{follows, Ties}
-use Rattle.links.specs.Rings.{ToCheck, Walkable}
-use Rattle.links.proofs.LinkLaws.{job_ring, job_ties}
-use Rattle.planning.specs.Judged.{Unwalked, JudgesFile}
+use Rattle.rules.specs.Reading.{read_job}
+use Rattle.rules.specs.Rings.{lowest_on_ring}
+use Rattle.rules.specs.Judgement.{then_judge, unless_ring, file_outcome}
+use Rattle.rules.specs.Tables.{Sound, job_of, befores_of, afters_of}
+use Rattle.rules.specs.declared.Piece.{Piece}
+use Rattle.rules.specs.declared.Link.{Link}
+use Rattle.rules.specs.declared.fault.Fault.TheVariants.{Ring}
+use Rattle.rules.specs.declared.fault.Refusal.{Refusal as Refused}
+use Rattle.laws.proofs.Reading.{job_sound}
+use Rattle.links.specs.Links.{follows}
+use Rattle.links.specs.Rings.{ring_at, ToCheck, Walkable}
+use Rattle.links.specs.declared.rings.Walk.{Walk}
+use Rattle.links.proofs.LinkLaws.{job_of_ring, job_of_ties}
+use Rattle.moments.specs.Moments.{ToTime}
+use Rattle.reader.specs.Outcome.{outcome_told}
+use Rattle.reader.specs.declared.Job.{Job}
 
--- A refusal is no job.
-abbrev case_of : Read → ℕ
-case_of (Job n m) = 0
-case_of (Refused r) = 1
+pub read_refused : (file : List ℕ) (r : Refusal) → read_job file ≡ refused r → file_outcome file ≡ refused r
+unfolding file_outcome then_judge
+read_refused file r read = ap (λ o. then_judge o unless_ring) read
 
-no_job : {P : Type 0} (x : Refusal) (n m : ℕ) → Refused x ≡ Job n m → P
-no_job x n m e = let z : ◌≡◌ {A = ℕ} 1 0 = ap case_of e in absurd (omega arith)
+module _ (file : List ℕ) (job : Job) (read : read_job file ≡ accepted (job_of job.pieces.items job.links.items)) where
+  abbrev ps : List Piece
+  ps = job.pieces.items
 
-same_job : (a b n m : ℕ) → Job a b ≡ Job n m → (a ≡ n) × (b ≡ m)
-same_job a b n m e = (cc, cc)
+  abbrev ls : List Link
+  ls = job.links.items
 
-module _ {s : List ℕ} {r : Read} {desks durations releases dues befores afters handovers : List ℕ}
-    (read : ReadsJob s r desks durations releases dues befores afters handovers) where
-  pub judged_refused : (lasts priors order : List ℕ) (x : Refusal) → r ≡ Refused x
-      → JudgesFile s r desks durations releases dues befores afters handovers lasts priors order
+  sound : Sound (job_of ps ls)
+  sound = job_sound file (job_of ps ls) read
+
+  pub to_check : {last : List ℕ} → last ≡ replicate 256 0 → ToCheck (length ps) (length ls) (befores_of ls) (afters_of ls) last
+  to_check clear = record {
+    ties = job_of_ties ps ls sound;
+    cleared = λ i h. rw clear (get_or-replicate 256 i 0 0 h);
+  }
+
+  read_on : file_outcome file ≡ unless_ring (job_of ps ls)
   unfolding file_outcome then_judge
-  judged_refused lasts priors order x e = rw e (record {
-    says = ap (λ o. then_judge o unless_ring) (is_refused_lem read x e);
-    sound = λ n m q. no_job x n m q;
-    free = λ n m q. no_job x n m q;
-    walkable = λ n m q. no_job x n m q;
-  })
+  read_on = ap (λ o. then_judge o unless_ring) read
 
-  module _ (n m : ℕ) (e : r ≡ Job n m) where
-    judged-ties : Ties n m befores afters
-    judged-ties = job_ties n m desks durations releases dues befores afters handovers (is_sound read n m e)
-
-    pub to_check : (lasts priors order : List ℕ) → Unwalked lasts priors order
-        → ToCheck n m befores afters lasts priors order
-    to_check lasts priors order u = record {
-      ties = judged-ties;
-      sized = u.order_sized;
-      chains = record {
-        last_sized = u.lasts_sized;
-        prior_sized = u.priors_sized;
-        few = judged-ties.few_links;
-        small = λ k l. omega (arith, judged-ties.before_one k l, judged-ties.few_pieces);
-        cleared = u.cleared;
-      };
-    }
-
-    read_on : file_outcome s ≡ unless_ring (job_in n m desks durations releases dues befores afters handovers)
-    unfolding file_outcome then_judge
-    read_on = ap (λ o. then_judge o unless_ring) (is_accepted read n m e)
-
-    pub judged_free : (lasts priors order : List ℕ) → none ≡ lowest_on_ring (follows m befores afters) n
-        → Walkable n m befores afters lasts priors order
-        → JudgesFile s (Job n m) desks durations releases dues befores afters handovers lasts priors order
+  -- The answer passes on what the ring check answered.
+  module _ (ring : Result Unit ℕ) {answer : Result Unit Refused}
+      (passed : (u : Unit) → ring ≡ Ok u → answer ≡ Ok u)
+      (refused : (i : ℕ) → ring ≡ Err i → answer ≡ Err (record { fault = Ring; place = i }))
+      (found : ring_at ring ≡ lowest_on_ring (follows (length ls) (befores_of ls) (afters_of ls)) (length ps)) where
+    pub judged_outcome : file_outcome file ≡ outcome_told answer job
     unfolding unless_ring
-    judged_free lasts priors order found walks =
-        let free : ring_piece (job_in n m desks durations releases dues befores afters handovers) ≡ none =
-        job_ring n m desks durations releases dues befores afters handovers ∙ sym found in
-        record {
-          says = read_on ∙ rw (free, unless_ring);
-          sound = λ a b q. let w = same_job n m a b q in rw (← w.0, ← w.1) (is_sound read n m e);
-          free = λ a b q. let w = same_job n m a b q in rw (← w.0, ← w.1) free;
-          walkable = λ a b q. let w = same_job n m a b q in rw (← w.0, ← w.1) walks;
-        }
+    judged_outcome = go ring refl
+      where
+        go : (r : Result Unit ℕ) → ring ≡ r → file_outcome file ≡ outcome_told answer job
+        go (Ok u) e = rw (passed u e) (read_on ∙ rw (job_of_ring ps ls ∙ sym found ∙ ap ring_at e, unless_ring))
+        go (Err i) e = rw (refused i e) (read_on ∙ rw (job_of_ring ps ls ∙ sym found ∙ ap ring_at e, unless_ring))
 
-    pub judged_ring : (lasts priors order : List ℕ) (i : ℕ) → some i ≡ lowest_on_ring (follows m befores afters) n
-        → JudgesFile s (Refused (record { number = 11; place = i })) desks durations releases dues befores afters handovers
-        lasts priors order
-    unfolding unless_ring
-    judged_ring lasts priors order i found =
-        let at : ring_piece (job_in n m desks durations releases dues befores afters handovers) ≡ some i =
-        job_ring n m desks durations releases dues befores afters handovers ∙ sym found in
-        record {
-          says = read_on ∙ rw (at, unless_ring);
-          sound = λ a b q. no_job (record { number = 11; place = i }) a b q;
-          free = λ a b q. no_job (record { number = 11; place = i }) a b q;
-          walkable = λ a b q. no_job (record { number = 11; place = i }) a b q;
-        }
-
--- Tables that are still as they were made.
-pub unwalked : Unwalked (replicate 256 0) (replicate 1024 0) (replicate 256 0)
-unwalked = record {
-  lasts_sized = refl;
-  priors_sized = refl;
-  order_sized = refl;
-  cleared = λ i h. get_or-replicate 256 i 0 0 h;
-}
+    pub judged_walkable : (walk : Walk) → OnOk ring (Walkable (length ps) (length ls) (befores_of ls) (afters_of ls)
+        walk.chains.last walk.chains.prior walk.order) → OnOk answer (ToTime ps ls walk)
+    judged_walkable walk walkable = go ring refl
+      where
+        go : (r : Result Unit ℕ) → ring ≡ r → OnOk answer (ToTime ps ls walk)
+        go (Ok u) e = rw (passed u e) (record {
+          sound = sound;
+          free = job_of_ring ps ls ∙ sym found ∙ ap ring_at e;
+          walkable = rw e at walkable;
+        })
+        go (Err i) e = rw (refused i e) tt

@@ -1,3 +1,2 @@
 -- What the proofs of this crate share.
 pub mod JudgedLaws
-pub mod FinishingLaws

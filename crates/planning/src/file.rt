@@ -1,68 +1,25 @@
-// A job file planned: the tables that only the planning needs are made here, once for every call that starts from a file.
-ghost use Rattle.std.specs.Prelude.{◌≡◌, length};
-ghost use Rattle.steps.specs.Log.{Sized};
-ghost use Rattle.planning.specs.File.{PlansFile};
+// A job file planned: the walk, which only the planning needs, is made here, once for every call that starts from a file.
+ghost use Rattle.std.specs.Prelude.{◌≡◌, OnOk};
+ghost use Rattle.rules.specs.Judgement.{file_outcome};
+ghost use Rattle.rules.specs.Tables.{job_of};
+ghost use Rattle.reader.specs.Outcome.{outcome_told};
+ghost use Rattle.finished.specs.Finished.{Finished};
 
 use crate::finishing::finish_plan;
 use crate::judged::judge_file;
-use reader::Read;
-use rules::Refusal;
+use finished::Plan;
+use links::rings::Walk;
+use reader::Job;
+use rules::fault::Refusal;
 
-#[derive(Clone, Copy)]
-pub enum Planned {
-    Plan { pieces: usize, runs: usize },
-    Refused(Refusal),
-}
-
-// Fills desk, start, finish and latest moment of every piece and the log of the runs, or refuses the file for itself.
-pub fn plan_file(
-    file: &[u8],
-    desks: &mut [u8; 256],
-    starts: &mut [u32; 256],
-    finishes: &mut [u32; 256],
-    latests: &mut [i32; 256],
-    pieces: &mut [u16; 512],
-    froms: &mut [u32; 512],
-    untils: &mut [u32; 512],
-) -> Planned
-    requires sized { Sized starts.old finishes.old pieces.old froms.old untils.old }
-    requires latests_len { length latests.old ≡ 256 }
-    ensures { PlansFile file.now result desks.new starts.new finishes.new
-        latests.new pieces.new froms.new untils.new }
+/// A job file into its job and the finished plan of it, whatever they held before; or the refusal of the file for itself,
+/// and what the job then holds is of no use.
+pub fn plan_file(file: &[u8], job: &mut Job, plan: &mut Plan) -> Result<(), Refusal>
+    ensures outcome { file_outcome file.now ≡ outcome_told result job.new }
+    ensures finished { OnOk result (Finished (job_of job.new.pieces.items job.new.links.items) plan.new) }
 {
-    let mut durations = [0u16; 256];
-    let mut releases = [0u32; 256];
-    let mut dues = [0u32; 256];
-    let mut befores = [0u16; 1024];
-    let mut afters = [0u16; 1024];
-    let mut handovers = [0u16; 1024];
-    let mut lasts = [0u16; 256];
-    let mut priors = [0u16; 1024];
-    let mut order = [0u16; 256];
-    let judged = judge_file(
-        file,
-        desks,
-        &mut durations,
-        &mut releases,
-        &mut dues,
-        &mut befores,
-        &mut afters,
-        &mut handovers,
-        &mut lasts,
-        &mut priors,
-        &mut order,
-    );
-    match judged {
-        Read::Refused(refusal) => Planned::Refused(refusal),
-        Read::Job {
-            pieces: n,
-            links: m,
-        } => {
-            let runs = finish_plan(
-                n, m, desks, &durations, &releases, &dues, &befores, &afters, &handovers, &lasts,
-                &priors, &order, starts, finishes, latests, pieces, froms, untils,
-            );
-            Planned::Plan { pieces: n, runs }
-        }
-    }
+    let mut walk = Walk::new();
+    judge_file(file, job, &mut walk)?;
+    finish_plan(&job.pieces, &job.links, &walk, plan);
+    Ok(())
 }

@@ -1,4 +1,4 @@
-// From a job file to its finished plan in lent tables, or its refusal: the file judged, the plan finished, and both in one.
+// From a job file to its finished plan, or its refusal: the file judged, the plan finished, and both in one.
 #![tactic(auto)]
 
 pub mod file;

@@ -1,3 +1,0 @@
--- What the contracts of this crate cite besides the rules and the finished plan.
-pub mod Judged
-pub mod File
