@@ -1,3 +1,2 @@
--- What the proofs of this crate share.
+-- From a finished plan to its listing.
 pub mod ListingLaws
-pub mod PrintLaws

@@ -24,16 +24,16 @@ use Rattle.steps.specs.Log.{logged_runs}
 use Rattle.demands.proofs.Answers.{first_bytes_listing}
 use Rattle.demands.proofs.Runs.{run_records_lem}
 use Rattle.output.specs.Late.{lateness_in}
+use Rattle.rules.specs.Tables.{desks_of, starts_of, finishes_of, run_pieces, run_froms, run_untils}
+use Rattle.laws.proofs.Columns.{get_or-desks}
 use Rattle.finished.specs.Finished.{Finished}
-use Rattle.records.proofs.Front.{stored_front}
+use Rattle.finished.specs.declared.Plan.{Plan}
 use Rattle.finished.proofs.FinishedLaws.{few_pieces, count_here, end_here, worst_here}
-use Rattle.texts.specs.Puts.{Puts}
 use Rattle.lines.specs.Lines.{piece_text, run_text, total_text, refused_text, piece_line_in, piece_lines_in}
 use Rattle.lines.specs.Lines.{desk_lines_in, run_lines_in}
-use Rattle.lines.proofs.LineLaws.{run_most, total_most, refused_most}
-use Rattle.texts.proofs.TextLaws.{puts_then}
+use Rattle.lines.proofs.LineLaws.{run_most, total_most}
 use Rattle.listing.proofs.PageLaws.{pieces_most}
-use Rattle.deskplan_text.specs.Promise.{enough, listed_count, listed_text, ListingPromise, pages_in}
+use Rattle.deskplan_text.specs.Promise.{enough, listed_count, listed_text, ListingPromise}
 
 -- ONE LISTING: what meets the promise is one pair.
 pub one_listing : (file text : List ℕ) (a b : ℕ) (s t : List ℕ) → ListingPromise file text a s → ListingPromise file text b t
@@ -62,28 +62,20 @@ listed_within file text count after p = by_test (ltb (length text) 131072)
     let w : after ≡ at_front (listing file) text = p.left_there ∙ when_false _ text (at_front (listing file) text) e in
     omega (arith, z, ap length w, front_long (listing file) text))
 
--- The bytes of the listing, put at the front.
-pub listed_front : (file text bytes : List ℕ) (count : ℕ) (after : List ℕ) → enough ≤ length text → length bytes ≤ enough
-    → bytes ≡ listing file → Puts text 0 bytes after count → ListingPromise file text count after
+-- The listing put at the front.
+pub listed_front : (file text : List ℕ) (count : ℕ) (after : List ℕ) → enough ≤ length text
+    → count ≡ length (listing file) → after ≡ at_front (listing file) text → ListingPromise file text count after
 unfolding listed_count listed_text
-listed_front file text bytes count after h few is put =
-    let e = le-ltb (length text) 131072 h in
-    let z : count ≡ length bytes = omega (arith, put.past) in record {
-      counted = z ∙ ap length is ∙ sym (when_false _ 0 (length (listing file)) e);
-      left_there = put.written ∙ stored_front text bytes (omega arith) ∙ ap (λ x. at_front x text) is
-          ∙ sym (when_false _ text (at_front (listing file) text) e);
+listed_front file text count after h counted put =
+    let e = le-ltb (length text) 131072 h in record {
+      counted = counted ∙ sym (when_false _ 0 (length (listing file)) e);
+      left_there = put ∙ sym (when_false _ text (at_front (listing file) text) e);
     }
 
 -- A refused file: one line.
 pub refused_is : (file : List ℕ) (x : Refusal) → file_outcome file ≡ refused x → refused_text x.number x.place ≡ listing file
 unfolding refused_text refused_line listing_of
 refused_is file x says = sym (first_bytes_listing file ∙ ap listing_of says)
-
-pub listed_refused : (file text : List ℕ) (x : Refusal) (count : ℕ) (after : List ℕ) → file_outcome file ≡ refused x → enough ≤ length text
-    → Puts text 0 (refused_text x.number x.place) after count → ListingPromise file text count after
-listed_refused file text x count after says room =
-    listed_front file text (refused_text x.number x.place) count after room (omega (arith, refused_most x.number x.place))
-    (refused_is file x says)
 
 -- Sums that stay below a multiple.
 sum_most : {A : Type 0} (f g : A → ℕ) (k : ℕ) → ((x : A) → f x ≤ k * g x) → (l : List A) → sum (map f l) ≤ k * sum (map g l)
@@ -128,18 +120,40 @@ total_line_is : (J : Job)
 unfolding total_text total_line plan_numbers
 total_line_is J = refl
 
-module _ {J : Job} {n : ℕ} {desks starts finishes : List ℕ} {latests : List ℤ} {pieces froms untils : List ℕ} {count : ℕ}
-    (F : Finished J n desks starts finishes latests pieces froms untils count) where
-  piece_here : (i : ℕ) → i < n → piece_line J i ≡ piece_line_in desks starts finishes latests i
+module _ {J : Job} {plan : Plan} (F : Finished J plan) where
+  abbrev desks : List ℕ
+  desks = desks_of J.pieces
+
+  abbrev starts : List ℕ
+  starts = starts_of plan.spans
+
+  abbrev finishes : List ℕ
+  finishes = finishes_of plan.spans
+
+  abbrev count : ℕ
+  count = length plan.runs.items
+
+  abbrev pieces : List ℕ
+  pieces = run_pieces plan.runs.items
+
+  abbrev froms : List ℕ
+  froms = run_froms plan.runs.items
+
+  abbrev untils : List ℕ
+  untils = run_untils plan.runs.items
+
+  piece_here : (i : ℕ) → i < piece_count J → piece_line J i ≡ piece_line_in desks starts finishes plan.latests i
   unfolding piece_line_in
   piece_here i h =
-      piece_line_is J i ∙ λ k. piece_text i (F.desk_is i h k) (sym (F.start_is i h) k) (sym (F.finish_is i h) k) (sym (F.latest_is i h) k)
+      piece_line_is J i
+      ∙ λ k. piece_text i (sym (get_or-desks J.pieces i) k) (sym (F.start_is i h) k) (sym (F.finish_is i h) k)
+      (sym (F.latest_is i h) k)
 
-  pieces_here : joined (map (piece_line J) (below (piece_count J))) ≡ piece_lines_in n desks starts finishes latests
+  pieces_here : joined (map (piece_line J) (below (piece_count J))) ≡ piece_lines_in (piece_count J) desks starts finishes plan.latests
   unfolding piece_lines_in
   pieces_here =
-      ap (λ k. joined (map (piece_line J) (below k))) F.pieces_are
-      ∙ ap joined (map_same (piece_line J) (piece_line_in desks starts finishes latests) (below n) (λ i k. piece_here i (mem_below n i k)))
+      ap joined (map_same (piece_line J) (piece_line_in desks starts finishes plan.latests) (below (piece_count J))
+      (λ i k. piece_here i (mem_below (piece_count J) i k)))
 
   runs_here : joined (joined (map (run_lines J) (below 32))) ≡ run_lines_in 32 count desks pieces froms untils
   unfolding run_lines run_lines_in desk_lines_in
@@ -148,23 +162,21 @@ module _ {J : Job} {n : ℕ} {desks starts finishes : List ℕ} {latests : List 
       ∙ ap joined (map_same (λ d. joined (run_lines J d)) (desk_lines_in count desks pieces froms untils) (below 32)
       (λ d k. ap (λ rs. joined (map (run_line d) rs)) (sym (F.runs_are d (mem_below 32 d k)))))
 
-  total_here : total_text n count (greatest 0 (map (λ i. get_or finishes i 0) (below n)))
-      (worst_of (map (lateness_in finishes latests) (below n)))
-      ≡ total_line (plan_numbers J)
-  total_here =
-      (λ k. total_text (sym F.pieces_are k) (sym (count_here F) k)
-      (end_here F k) (worst_here F k))
+  -- The total, by the figures that the tables give.
+  total_here : (e : ℕ) (w : ℤ) → e ≡ greatest 0 (map (λ i. get_or finishes i 0) (below (piece_count J)))
+      → w ≡ worst_of (map (lateness_in finishes plan.latests) (below (piece_count J)))
+      → total_text (piece_count J) count e w ≡ total_line (plan_numbers J)
+  total_here e w p q =
+      (λ k. total_text (piece_count J) (sym (count_here F) k) ((p ∙ end_here F) k) ((q ∙ worst_here F) k))
       ∙ total_line_is J
 
   -- The pages are the listing.
-  pub pages_are : pages_in n count desks starts finishes latests pieces froms untils ≡ plan_listing J
-  unfolding pages_in plan_listing
-  pages_are = λ k. sym pieces_here k ++ sym runs_here k ++ total_here k
-
-  pub listing_is : (file : List ℕ) → file_outcome file ≡ accepted J
-      → pages_in n count desks starts finishes latests pieces froms untils ≡ listing file
-  unfolding listing_of
-  listing_is file says = pages_are ∙ sym (first_bytes_listing file ∙ ap listing_of says)
+  pub pages_are : (e : ℕ) (w : ℤ) → e ≡ greatest 0 (map (λ i. get_or finishes i 0) (below (piece_count J)))
+      → w ≡ worst_of (map (lateness_in finishes plan.latests) (below (piece_count J)))
+      → piece_lines_in (piece_count J) desks starts finishes plan.latests ++ run_lines_in 32 count desks pieces froms untils
+      ++ total_text (piece_count J) count e w ≡ plan_listing J
+  unfolding plan_listing
+  pages_are e w p q = λ k. sym pieces_here k ++ sym runs_here k ++ total_here e w p q k
 
   -- At most 141 bytes for each run of the log.
   pub runs_most : length (run_lines_in 32 count desks pieces froms untils) ≤ 141 * count
@@ -185,31 +197,30 @@ module _ {J : Job} {n : ℕ} {desks starts finishes : List ℕ} {latests : List 
             (λ d k. ap length (F.runs_are d (mem_below 32 d k)))),
       )
 
+  -- Every page has room.
+  pub pages_room : 211 * piece_count J + length (run_lines_in 32 count desks pieces froms untils) + 141 ≤ enough
+  pages_room = omega (arith, few_pieces F, F.few, runs_most)
+
   -- Every listing has room.
-  pub pages_most : length (pages_in n count desks starts finishes latests pieces froms untils) ≤ enough
-  unfolding pages_in
-  pages_most =
-      let e = greatest 0 (map (λ i. get_or finishes i 0) (below n)) in
-      let w = worst_of (map (lateness_in finishes latests) (below n)) in
-      omega (
+  pub listing_most : length (plan_listing J) ≤ enough
+  listing_most =
+      let e = greatest 0 (map (λ i. get_or finishes i 0) (below (piece_count J))) in
+      let w = worst_of (map (lateness_in finishes plan.latests) (below (piece_count J))) in
+      let pages = piece_lines_in (piece_count J) desks starts finishes plan.latests in
+      let more = run_lines_in 32 count desks pieces froms untils in
+      rw (← (pages_are e w refl refl))
+      (omega (
         arith,
         few_pieces F,
         F.few,
         runs_most,
-        pieces_most desks starts finishes latests n,
-        total_most n count e w,
-        length-append (piece_lines_in n desks starts finishes latests) (run_lines_in 32 count desks pieces froms untils),
-        length-append (piece_lines_in n desks starts finishes latests ++ run_lines_in 32 count desks pieces froms
-            untils) (total_text n count e w),
-      )
+        pieces_most desks starts finishes plan.latests (piece_count J),
+        total_most (piece_count J) count e w,
+        length-append pages more,
+        length-append (pages ++ more) (total_text (piece_count J) count e w),
+      ))
 
--- The pages one behind the other.
-module _ (n count : ℕ) (desks starts finishes : List ℕ) (latests : List ℤ) (pieces froms untils : List ℕ) where
-  pub pages_put : {text mid more after : List ℕ} {next end r e : ℕ} {w : ℤ}
-      → Puts text 0 (piece_lines_in n desks starts finishes latests) mid next
-      → Puts mid next (run_lines_in 32 count desks pieces froms untils) more end
-      → e ≡ greatest 0 (map (λ i. get_or finishes i 0) (below n)) → w ≡ worst_of (map (lateness_in finishes latests) (below n))
-      → Puts more end (total_text n count e w) after r → Puts text 0
-      (pages_in n count desks starts finishes latests pieces froms untils) after r
-  unfolding pages_in
-  pages_put p q is worst t = puts_then (puts_then p q) (rw (is, worst) at t)
+-- The listing of an accepted file.
+pub listing_is : (file : List ℕ) (J : Job) → file_outcome file ≡ accepted J → plan_listing J ≡ listing file
+unfolding listing_of
+listing_is file J says = sym (first_bytes_listing file ∙ ap listing_of says)

@@ -1,26 +1,19 @@
--- `write_listing` keeps its promise: a text too short is left, a refused file has its line, an accepted one its pages.
-use native.Mathlib.Omega.{arith}
-use Rattle.deskplan_text.proofs.ListingLaws.{listed_short, listed_refused}
-use Rattle.deskplan_text.proofs.PrintLaws.{printable, printed}
+-- `write_listing` keeps its promise: a text too short is left, and else the listing stands at its front.
+use Rattle.std.proofs.Common.{◌≡◌, refl, sym, ◌∙◌, arith, length}
+use Rattle.rules.specs.Listing.{listing}
+use Rattle.records.proofs.PutLaws.{front_is}
+use Rattle.deskplan_text.proofs.ListingLaws.{listed_short, listed_front}
 use Rattle.deskplan_text.proofs.write_listing.Goals as goal
 
 pub returns-then-text-lt-ENOUGH : goal.returns-then-text-lt-ENOUGH
 returns-then-text-lt-ENOUGH c =
     let a = c.args in listed_short a.file.now a.text.now (omega (arith, c.if-text-lt-ENOUGH.true))
 
-pub put_pages-requires : goal.put_pages-requires
-put_pages-requires c =
-    printable (c.plan_file-planned.ensures.planned_is c.in-Plan.n c.in-Plan.runs c.in-Plan.is).finished _
-    (omega (arith, c.if-text-lt-ENOUGH.false))
-
-pub returns-in-Refused : goal.returns-in-Refused
-returns-in-Refused c =
+pub returns : goal.returns
+returns c =
     let a = c.args in
-    listed_refused a.file.now a.text.now c.in-Refused.refusal _ _
-    (c.plan_file-planned.ensures.refused_is c.in-Refused.refusal c.in-Refused.is)
-    (omega (arith, c.if-text-lt-ENOUGH.false)) c.put_refused_line.ensures
-
-pub returns-in-Plan : goal.returns-in-Plan
-returns-in-Plan c =
-    let P = c.plan_file-planned.ensures.planned_is c.in-Plan.n c.in-Plan.runs c.in-Plan.is in
-    printed P.finished _ _ _ _ P.says (omega (arith, c.if-text-lt-ENOUGH.false)) c.put_pages.ensures
+    let whole = c.put_listing.ensures.put in
+    let counted : c.put_listing.new.text.at ≡ length (listing a.file.now) = omega (arith, whole.past) in
+    listed_front a.file.now a.text.now _ _ (omega (arith, c.if-text-lt-ENOUGH.false)) counted
+    (c.text-1.given.1.1 (sym whole.same)
+    ∙ front_is refl (omega (arith, c.put_listing.ensures.few, c.if-text-lt-ENOUGH.false)) whole)
