@@ -1,5 +1,4 @@
-// The block sheet of one desk: the public call.
+// The public call of the block sheet of one desk.
 #![tactic(auto)]
 
-pub mod fill;
 pub mod sheet;

@@ -1,123 +1,65 @@
 // The block sheet of one desk of a job file: records of blocks and of runs in the lent buffer. Everything is judged before
 // the first byte is written.
-ghost use Rattle.std.specs.Prelude.{List, ◌≡◌, ℕ};
+ghost use Rattle.std.specs.Prelude.{List, ◌≡◌, ℕ, length};
 ghost use Rattle.rules.specs.Job.{accepted};
 ghost use Rattle.rules.specs.Judgement.{file_outcome};
-ghost use Rattle.rules.specs.Tables.{job_in};
+ghost use Rattle.rules.specs.Tables.{job_of};
+ghost use Rattle.rules.specs.Told.{block_answer_told};
 ghost use Rattle.demands.specs.Promises.{BlockPromise};
-ghost use Rattle.planning.specs.Judged.{Planable};
+ghost use Rattle.moments.specs.Moments.{ToTime};
 
-use crate::fill::fill_sheet;
+use arrayvec::ArrayVec;
+use blocks::planned::planned_sheet;
+use finished::Plan;
+use links::rings::Walk;
+use planning::finishing::finish_plan;
 use planning::judged::judge_file;
-use reader::Read;
-use rules::{BlockAnswer, Refusal};
-use sheet_answer::{answer_sheet, refused, sheet_fault};
+use reader::Job;
+use rules::fault::Refusal;
+use rules::{BlockFigures, Link, Piece};
+use sheet_answer::{answer_sheet, sheet_fault};
 
-// An accepted job: 13 where there is no such desk, then 12 where the lent buffer is too short, and else the sheet.
+// An accepted job: 13 where there is no such desk, then 12 where the lent buffer is too short, and else the sheet. The plan of
+// the whole job comes first; its runs are needed no longer when the block method begins, so its list takes the runs of that.
 fn sheet_accepted(
-    n: usize,
-    m: usize,
+    pieces: &[Piece],
+    links: &[Link],
+    walk: &Walk,
     desk: u8,
-    desks: &[u8; 256],
-    durations: &[u16; 256],
-    releases: &[u32; 256],
-    dues: &[u32; 256],
-    befores: &[u16; 1024],
-    afters: &[u16; 1024],
-    handovers: &[u16; 1024],
-    lasts: &[u16; 256],
-    priors: &[u16; 1024],
-    order: &[u16; 256],
     buffer: &mut [u8],
-) -> BlockAnswer
-    requires { Planable n m desks.now durations.now releases.now dues.now befores.now afters.now
-        handovers.now lasts.now priors.now order.now }
-    ensures { (file : List ℕ) → file_outcome file ≡ accepted (job_in n m desks.now
-        durations.now releases.now dues.now befores.now afters.now
-        handovers.now) → BlockPromise file desk buffer.old result buffer.new }
+) -> Result<BlockFigures, Refusal>
+    requires walkable { ToTime pieces.now links.now walk.now }
+    requires some_file { (file : List ℕ) × (file_outcome file ≡ accepted (job_of pieces.now links.now)) }
+    ensures { (file : List ℕ) → file_outcome file ≡ accepted (job_of pieces.now links.now)
+        → BlockPromise file desk buffer.old (block_answer_told result) buffer.new }
 {
-    let fault = sheet_fault(desk, n, buffer.len());
-    if fault != 0 {
-        return refused(Refusal {
-            number: fault,
-            place: 0,
-        });
+    if let Err(fault) = sheet_fault(desk, pieces.len(), buffer.len()) {
+        return Err(Refusal { fault, place: 0 });
     }
-    let mut counts = [0u16; 256];
-    let mut starts = [0u32; 256];
-    let mut ends = [0u32; 256];
-    let mut pieces = [0u16; 512];
-    let mut froms = [0u32; 512];
-    let mut untils = [0u32; 512];
-    let sheet = fill_sheet(
-        n,
-        m,
+    let mut plan = Plan::new();
+    finish_plan(pieces, links, walk, &mut plan);
+    plan.runs.clear();
+    let mut rows = ArrayVec::new();
+    let worst = planned_sheet(
+        pieces,
+        links,
         desk,
-        desks,
-        durations,
-        releases,
-        dues,
-        befores,
-        afters,
-        handovers,
-        lasts,
-        priors,
-        order,
-        &mut counts,
-        &mut starts,
-        &mut ends,
-        &mut pieces,
-        &mut froms,
-        &mut untils,
+        walk,
+        &plan.spans,
+        &plan.latests,
+        &mut rows,
+        &mut plan.runs,
     );
-    answer_sheet(
-        desk,
-        sheet.blocks,
-        sheet.runs,
-        sheet.worst,
-        &counts,
-        &starts,
-        &ends,
-        &pieces,
-        &froms,
-        &untils,
-        buffer,
-    )
+    Ok(answer_sheet(desk, &rows, &plan.runs, worst, buffer))
 }
 
-// THE BLOCK SHEET: takes every file, every desk of one byte and every lent buffer, and answers or refuses by a number on
-// the list.
-pub fn block_sheet(file: &[u8], desk: u8, buffer: &mut [u8]) -> BlockAnswer
-    ensures { BlockPromise file.now desk buffer.old result buffer.new }
+/// THE BLOCK SHEET: takes every file, every desk of one byte and every lent buffer, and answers or refuses by a fault on
+/// the list.
+pub fn block_sheet(file: &[u8], desk: u8, buffer: &mut [u8]) -> Result<BlockFigures, Refusal>
+    ensures { BlockPromise file.now desk buffer.old (block_answer_told result) buffer.new }
 {
-    let mut desks = [0u8; 256];
-    let mut durations = [0u16; 256];
-    let mut releases = [0u32; 256];
-    let mut dues = [0u32; 256];
-    let mut befores = [0u16; 1024];
-    let mut afters = [0u16; 1024];
-    let mut handovers = [0u16; 1024];
-    let mut lasts = [0u16; 256];
-    let mut priors = [0u16; 1024];
-    let mut order = [0u16; 256];
-    let judged = judge_file(
-        file,
-        &mut desks,
-        &mut durations,
-        &mut releases,
-        &mut dues,
-        &mut befores,
-        &mut afters,
-        &mut handovers,
-        &mut lasts,
-        &mut priors,
-        &mut order,
-    );
-    match judged {
-        Read::Refused(refusal) => refused(refusal),
-        Read::Job { pieces, links } => sheet_accepted(
-            pieces, links, desk, &desks, &durations, &releases, &dues, &befores, &afters,
-            &handovers, &lasts, &priors, &order, buffer,
-        ),
-    }
+    let mut job = Job::new();
+    let mut walk = Walk::new();
+    judge_file(file, &mut job, &mut walk)?;
+    sheet_accepted(&job.pieces, &job.links, &walk, desk, buffer)
 }
