@@ -8,12 +8,15 @@ use lib.Dec.{eqb}
 use lib.IntN.{ℤ, pos}
 use lib.ListN.{length, get_or, length-map}
 use Rattle.rules.specs.Words.{keep, below, joined, greatest, worst_of, sum}
-use Rattle.rules.specs.Job.{Job, piece_count}
+use Rattle.rules.specs.Job.{Job, accepted, piece_count}
+use Rattle.rules.specs.Judgement.{file_outcome}
+use Rattle.rules.specs.declared.Piece.{Piece}
+use Rattle.rules.specs.declared.Link.{Link}
 use Rattle.rules.specs.Urgency.{finish}
 use Rattle.rules.specs.Runs.{runs}
 use Rattle.rules.specs.Bytes.{result_record, run_record}
 use Rattle.rules.specs.Plan.{desk_run_records, run_records, result_records, plan_bytes, plan_numbers, lateness}
-use Rattle.rules.specs.Tables.{desks_of, starts_of, finishes_of, run_pieces, run_froms, run_untils}
+use Rattle.rules.specs.Tables.{job_of, desks_of, starts_of, finishes_of, run_pieces, run_froms, run_untils}
 use Rattle.laws.proofs.Columns.{get_or-desks}
 use Rattle.laws.proofs.Words.{map_same, mem_below, length-below}
 use Rattle.laws.proofs.Joined.{joined_append, joined_twice}
@@ -25,8 +28,13 @@ use Rattle.demands.proofs.Runs.{all_desks, run_records_lem}
 use Rattle.output.specs.Written.{result_in, results_in, desk_runs_in, runs_in, LogFits}
 use Rattle.output.specs.Late.{Bounded, lateness_in}
 use Rattle.output.proofs.WrittenLaws.{result_is}
-use Rattle.finished.specs.Finished.{Finished}
+use Rattle.finished.specs.Finished.{Finished, PlannedFile}
 use Rattle.finished.specs.declared.Plan.{Plan}
+
+-- A file that is accepted for a job, and the finished plan of that job.
+pub planned_file : {file : List ℕ} {pieces : List Piece} {links : List Link} {plan : Plan}
+    → file_outcome file ≡ accepted (job_of pieces links) → Finished (job_of pieces links) plan → PlannedFile file pieces plan
+planned_file {links = links} says finished = record { links = links; says = says; finished = finished }
 
 module _ {J : Job} {plan : Plan} (F : Finished J plan) where
   abbrev desks : List ℕ

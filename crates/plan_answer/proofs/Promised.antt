@@ -5,7 +5,7 @@ use Rattle.std.proofs.Common.{arith, sym, ap, ◌∙◌, length-append}
 use borrow.Author.Tests.{lt-ltb, le-ltb}
 use Rattle.rules.specs.Job.{refused, accepted}
 use Rattle.rules.specs.Answers.{PlanAnswer}
-use Rattle.rules.specs.Judgement.{then_judge, unless_short, plan_outcome}
+use Rattle.rules.specs.Judgement.{then_judge, unless_short, file_outcome, plan_outcome}
 use Rattle.rules.specs.Plan.{at_front, plan_numbers, plan_answer_of, plan_buffer_of, plan_answer, plan_buffer}
 use Rattle.rules.specs.Tables.{job_of, desks_of, starts_of, finishes_of, run_pieces, run_froms, run_untils}
 use Rattle.rules.specs.Told.{refusal_of, plan_answer_told}
@@ -25,12 +25,17 @@ use Rattle.finished.specs.Finished.{PlannedFile}
 use Rattle.finished.specs.declared.Plan.{Plan}
 use Rattle.finished.proofs.FinishedLaws.{bytes_here}
 
--- A refusal, by the file or by the buffer, leaves the buffer as it was.
-pub plan_refused : (file buffer : List ℕ) (r : Refusal) → plan_outcome file (length buffer) ≡ refused (refusal_of r)
+-- A refusal leaves the buffer as it was.
+leaves_all : (file buffer : List ℕ) (r : Refusal) → plan_outcome file (length buffer) ≡ refused (refusal_of r)
     → PlanPromise file buffer (plan_answer_told (Err r)) buffer
 unfolding plan_answer plan_buffer plan_answer_of plan_buffer_of
-plan_refused file buffer r o =
+leaves_all file buffer r o =
     record { answered = ap plan_answer_of (sym o); left_there = ap (λ o. plan_buffer_of o buffer) (sym o) }
+
+pub plan_refused : (file buffer : List ℕ) (r : Refusal) → file_outcome file ≡ refused (refusal_of r)
+    → PlanPromise file buffer (plan_answer_told (Err r)) buffer
+unfolding plan_outcome then_judge
+plan_refused file buffer r says = leaves_all file buffer r (ap (λ o. then_judge o (unless_short (length buffer))) says)
 
 module _ {file : List ℕ} {pieces : List Piece} {plan : Plan} (P : PlannedFile file pieces plan) where
   abbrev results : List ℕ
@@ -53,7 +58,7 @@ module _ {file : List ℕ} {pieces : List Piece} {plan : Plan} (P : PlannedFile 
         → PlanPromise file buffer (plan_answer_told (Err (record { fault = BufferTooShort; place = 0 }))) buffer
     unfolding plan_outcome then_judge unless_short
     plan_short short =
-        plan_refused file buffer (record { fault = BufferTooShort; place = 0 })
+        leaves_all file buffer (record { fault = BufferTooShort; place = 0 })
         (ap (λ o. then_judge o (unless_short (length buffer))) P.says
         ∙ when_true (ltb (length buffer) (48 * length pieces)) _ _ (lt-ltb (length buffer) (48 * length pieces) short))
 

@@ -2,37 +2,22 @@
 // written.
 #![tactic(auto)]
 
+ghost use Rattle.rules.specs.Told.{plan_answer_told};
 ghost use Rattle.demands.specs.Promises.{PlanPromise};
 
-use plan_answer::{answer_plan, refused};
-use planning::file::{Planned, plan_file};
-use rules::PlanAnswer;
+use finished::Plan;
+use plan_answer::answer_plan;
+use planning::file::plan_file;
+use reader::Job;
+use rules::PlanFigures;
+use rules::fault::Refusal;
 
-// THE PLAN: takes every file and every lent buffer, and answers or refuses by a number on the list.
-pub fn plan(file: &[u8], buffer: &mut [u8]) -> PlanAnswer
-    ensures { PlanPromise file.now buffer.old result buffer.new }
+/// THE PLAN: takes every file and every lent buffer, and answers with the figures of the plan or with a refusal on the list.
+pub fn plan(file: &[u8], buffer: &mut [u8]) -> Result<PlanFigures, Refusal>
+    ensures { PlanPromise file.now buffer.old (plan_answer_told result) buffer.new }
 {
-    let mut desks = [0u8; 256];
-    let mut starts = [0u32; 256];
-    let mut finishes = [0u32; 256];
-    let mut latests = [0i32; 256];
-    let mut pieces = [0u16; 512];
-    let mut froms = [0u32; 512];
-    let mut untils = [0u32; 512];
-    let planned = plan_file(
-        file,
-        &mut desks,
-        &mut starts,
-        &mut finishes,
-        &mut latests,
-        &mut pieces,
-        &mut froms,
-        &mut untils,
-    );
-    match planned {
-        Planned::Refused(refusal) => refused(refusal),
-        Planned::Plan { pieces: n, runs } => answer_plan(
-            n, runs, &desks, &starts, &finishes, &latests, &pieces, &froms, &untils, buffer,
-        ),
-    }
+    let mut job = Job::new();
+    let mut plan = Plan::new();
+    plan_file(file, &mut job, &mut plan)?;
+    answer_plan(&job.pieces, &plan, buffer)
 }
