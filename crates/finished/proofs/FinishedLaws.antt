@@ -1,5 +1,5 @@
--- From a finished plan to records and figures: the bytes made of it are the page's records, the counts and figures are the
--- page's answer.
+-- From a finished plan to records and figures: the bytes made of it are the page's records, the counts and figures are
+-- the page's answer.
 use Prim.Native.Nat.{ℕ, ◌≤◌, ◌<◌}
 use mathlib.Core.List.{List, ◌++◌, map}
 use mathlib.Core.Path.{◌≡◌, refl, sym, ap, ◌∙◌}
@@ -33,7 +33,8 @@ use Rattle.finished.specs.declared.Plan.{Plan}
 
 -- A file that is accepted for a job, and the finished plan of that job.
 pub planned_file : {file : List ℕ} {pieces : List Piece} {links : List Link} {plan : Plan}
-    → file_outcome file ≡ accepted (job_of pieces links) → Finished (job_of pieces links) plan → PlannedFile file pieces plan
+    → file_outcome file ≡ accepted (job_of pieces links) → Finished (job_of pieces links) plan
+    → PlannedFile file pieces plan
 planned_file {links = links} says finished = record { links = links; says = says; finished = finished }
 
 module _ {J : Job} {plan : Plan} (F : Finished J plan) where
@@ -74,22 +75,25 @@ module _ {J : Job} {plan : Plan} (F : Finished J plan) where
   unfolding run_records desk_run_records runs_in desk_runs_in
   runs_here =
       joined_twice (desk_run_records J) (below 32)
-      ∙ ap joined (map_same (λ d. joined (desk_run_records J d)) (desk_runs_in count desks pieces froms untils) (below 32)
+      ∙ ap joined (map_same (λ d. joined (desk_run_records J d)) (desk_runs_in count desks pieces froms untils)
+      (below 32)
       (λ d k. ap (λ rs. joined (map (run_record d) rs)) (sym (F.runs_are d (mem_below 32 d k)))))
 
-  pub bytes_here : results_in (piece_count J) desks starts finishes plan.latests ++ runs_in 32 count desks pieces froms untils
-      ≡ plan_bytes J
+  pub bytes_here : results_in (piece_count J) desks starts finishes plan.latests
+      ++ runs_in 32 count desks pieces froms untils ≡ plan_bytes J
   unfolding plan_bytes
   bytes_here =
       ap (λ r. r ++ runs_in 32 count desks pieces froms untils) (sym results_here)
-      ∙ ap (λ r. joined (result_records J) ++ r) (sym runs_here) ∙ sym (joined_append (result_records J) (run_records J))
+      ∙ ap (λ r. joined (result_records J) ++ r) (sym runs_here)
+      ∙ sym (joined_append (result_records J) (run_records J))
 
   -- The count of the runs is the count of the run records.
   pub count_here : length (run_records J) ≡ count
   unfolding logged_runs
   count_here =
       run_records_lem J
-      ∙ ap sum (map_same (λ d. length (runs J d)) (λ d. length (keep (λ k. eqb (get_or desks (get_or pieces k 0) 0) d) (below count)))
+      ∙ ap sum (map_same (λ d. length (runs J d))
+      (λ d. length (keep (λ k. eqb (get_or desks (get_or pieces k 0) 0) d) (below count)))
       (below 32)
       (λ d k. ap length (sym (F.runs_are d (mem_below 32 d k)))
       ∙ length-map (keep (λ k. eqb (get_or desks (get_or pieces k 0) 0) d) (below count)) (run_at pieces froms untils)))

@@ -20,8 +20,8 @@ pub record Finished (J : Job) (plan : Plan) : Type 0 where
   pub finish_is : (i : ℕ) → i < piece_count J → get_or (finishes_of plan.spans) i 0 ≡ finish J i
   pub latest_is : (i : ℕ) → i < piece_count J → get_or plan.latests i (pos 0) ≡ latest J i
   pub runs_are : (d : ℕ) → d < 32
-      → logged_runs (desks_of J.pieces) (run_pieces plan.runs.items) (run_froms plan.runs.items) (run_untils plan.runs.items)
-      (length plan.runs.items) d ≡ runs J d
+      → logged_runs (desks_of J.pieces) (run_pieces plan.runs.items) (run_froms plan.runs.items)
+      (run_untils plan.runs.items) (length plan.runs.items) d ≡ runs J d
   pub inside : (k : ℕ) → k < length plan.runs.items → get_or (run_pieces plan.runs.items) k 0 < piece_count J
   pub few : length plan.runs.items ≤ piece_count J + piece_count J
   pub sized : Sized (starts_of plan.spans) (finishes_of plan.spans)

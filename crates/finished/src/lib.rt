@@ -1,5 +1,5 @@
-// A finished plan, out of which every call makes what it answers. specs/ says what makes it the plan of a job, proofs/ what
-// follows for records and figures.
+// A finished plan, out of which every call makes what it answers. specs/ says what makes it the plan of a job, proofs/
+// what follows for records and figures.
 #![tactic(auto)]
 
 ghost use Rattle.std.specs.Prelude.{◌≡◌, [], pos, replicate};

@@ -1,5 +1,5 @@
--- From a finished plan to the promise of the call: an accepted file is answered with its records and figures, and a refused
--- one or a buffer that is too short leaves every byte.
+-- From a finished plan to the promise of the call: an accepted file is answered with its records and figures, and a
+-- refused one or a buffer that is too short leaves every byte.
 use Rattle.std.specs.Prelude.{ℕ, ◌*◌, ◌≤◌, ◌<◌, List, ◌++◌, ◌≡◌, length, ltb}
 use Rattle.std.proofs.Common.{arith, sym, ap, ◌∙◌, length-append}
 use borrow.Author.Tests.{lt-ltb, le-ltb}
@@ -71,12 +71,13 @@ module _ {file : List ℕ} {pieces : List Piece} {plan : Plan} (P : PlannedFile 
 
       -- The promise is kept: results at the front, runs right after them, and the answer.
       pub plan_kept : {old mid new : Lent} {answer : PlanAnswer} {after : List ℕ} → old.bytes.now ≡ buffer → old.at ≡ 0
-          → Puts old results mid → Puts mid runs new → after ≡ new.bytes.now → answer ≡ plan_numbers (job_of pieces P.links)
-          → PlanPromise file buffer answer after
+          → Puts old results mid → Puts mid runs new → after ≡ new.bytes.now
+          → answer ≡ plan_numbers (job_of pieces P.links) → PlanPromise file buffer answer after
       unfolding plan_answer plan_buffer plan_answer_of plan_buffer_of
       plan_kept lent front put more left answer = record {
         answered = answer ∙ ap plan_answer_of (sym accepted_here);
         left_there = left ∙ rw (lent, front) at (puts_on put more).written
             ∙ stored_front buffer (results ++ runs) (omega (arith, all_fit))
-            ∙ ap (λ w. at_front w buffer) (bytes_here P.finished) ∙ ap (λ o. plan_buffer_of o buffer) (sym accepted_here);
+            ∙ ap (λ w. at_front w buffer) (bytes_here P.finished)
+            ∙ ap (λ o. plan_buffer_of o buffer) (sym accepted_here);
       }

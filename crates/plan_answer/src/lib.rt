@@ -1,5 +1,5 @@
-// A finished plan answered: its result and run records in the lent buffer, and its figures; refused where the buffer is too
-// short. Nothing is written before that is judged.
+// A finished plan answered: its result and run records in the lent buffer, and its figures; refused where the buffer is
+// too short. Nothing is written before that is judged.
 #![tactic(auto)]
 
 ghost use Rattle.std.specs.Prelude.{List, ℕ};

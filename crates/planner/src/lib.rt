@@ -12,7 +12,8 @@ use reader::Job;
 use rules::PlanFigures;
 use rules::fault::Refusal;
 
-/// THE PLAN: takes every file and every lent buffer, and answers with the figures of the plan or with a refusal on the list.
+/// THE PLAN: takes every file and every lent buffer, and answers with the figures of the plan or with a refusal on the
+/// list.
 pub fn plan(file: &[u8], buffer: &mut [u8]) -> Result<PlanFigures, Refusal>
     ensures { PlanPromise file.now buffer.old (plan_answer_told result) buffer.new }
 {

@@ -35,7 +35,8 @@ module _ (file : List ℕ) (job : Job) (read : read_job file ≡ accepted (job_o
   sound : Sound (job_of ps ls)
   sound = job_sound file (job_of ps ls) read
 
-  pub to_check : {last : List ℕ} → last ≡ replicate 256 0 → ToCheck (length ps) (length ls) (befores_of ls) (afters_of ls) last
+  pub to_check : {last : List ℕ} → last ≡ replicate 256 0
+      → ToCheck (length ps) (length ls) (befores_of ls) (afters_of ls) last
   to_check clear = record {
     ties = job_of_ties ps ls sound;
     cleared = λ i h. rw clear (get_or-replicate 256 i 0 0 h);

@@ -1,4 +1,5 @@
-// A job file planned: the walk, which only the planning needs, is made here, once for every call that starts from a file.
+// A job file planned: the walk, which only the planning needs, is made here, once for every call that starts from a
+// file.
 ghost use Rattle.std.specs.Prelude.{◌≡◌, OnOk};
 ghost use Rattle.rules.specs.Judgement.{file_outcome};
 ghost use Rattle.rules.specs.Tables.{job_of};
@@ -12,8 +13,8 @@ use links::rings::Walk;
 use reader::Job;
 use rules::fault::Refusal;
 
-/// A job file into its job and the finished plan of it, whatever they held before; or the refusal of the file for itself,
-/// and what the job then holds is of no use.
+/// A job file into its job and the finished plan of it, whatever they held before; or the refusal of the file for
+/// itself, and what the job then holds is of no use.
 pub fn plan_file(file: &[u8], job: &mut Job, plan: &mut Plan) -> Result<(), Refusal>
     ensures outcome { file_outcome file.now ≡ outcome_told result job.new }
     ensures finished { OnOk result (Finished (job_of job.new.pieces.items job.new.links.items) plan.new) }

@@ -1,5 +1,5 @@
-// The finished plan of an accepted job, of which every call makes what it answers: latest moments first, since urgency asks
-// for them, then the plan by urgency.
+// The finished plan of an accepted job, of which every call makes what it answers: latest moments first, since urgency
+// asks for them, then the plan by urgency.
 ghost use Rattle.rules.specs.Tables.{job_of};
 ghost use Rattle.moments.specs.Moments.{ToTime};
 ghost use Rattle.finished.specs.Finished.{Finished};

@@ -1,5 +1,5 @@
--- `answer_plan` meets its contract: refused where the buffer is too short, and else the records and figures are made of the
--- finished plan.
+-- `answer_plan` meets its contract: refused where the buffer is too short, and else the records and figures are made of
+-- the finished plan.
 use Rattle.std.proofs.Common.{arith, rules, refl, ◌∙◌}
 use mir.Syntax.{w32}
 use mir.ValLaws.{to_z-of_z}

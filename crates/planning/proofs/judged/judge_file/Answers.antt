@@ -16,10 +16,12 @@ ring_check-requires c =
 pub returns-clause-outcome : goal.returns-clause-outcome
 returns-clause-outcome c =
     judged_outcome c.args.file.now c.read_job.new.job c.in_ok-read_job.ensures.outcome c.ring_check.result
-    (λ u e. search rules) (λ i e. search rules) (rw (c.len.ensures.value, c.deref.ensures.0) at c.ring_check.ensures.found)
+    (λ u e. search rules) (λ i e. search rules)
+    (rw (c.len.ensures.value, c.deref.ensures.0) at c.ring_check.ensures.found)
 
 pub returns-clause-walkable : goal.returns-clause-walkable
 returns-clause-walkable c =
     judged_walkable c.args.file.now c.read_job.new.job c.in_ok-read_job.ensures.outcome c.ring_check.result
-    (λ u e. search rules) (λ i e. search rules) (rw (c.len.ensures.value, c.deref.ensures.0) at c.ring_check.ensures.found)
+    (λ u e. search rules) (λ i e. search rules)
+    (rw (c.len.ensures.value, c.deref.ensures.0) at c.ring_check.ensures.found)
     c.ring_check.new.walk (rw (c.len.ensures.value, c.deref.ensures.0) at c.ring_check.ensures.walkable)
