@@ -2,6 +2,6 @@
 use Rattle.std.specs.Prelude.{ℕ, List, map}
 use Rattle.rules.specs.Words.{below, joined}
 
-unfoldable pub row_bytes : (ℕ → List ℕ) → ℕ → List ℕ
+unfoldable pub rows_bytes : (ℕ → List ℕ) → ℕ → List ℕ
 unfolding joined below
-row_bytes made n = joined (map made (below n))
+rows_bytes made n = joined (map made (below n))

@@ -8,14 +8,14 @@ ghost use Rattle.forms.specs.Kinds.{piece_width, piece_placed, piece_offered, pi
 ghost use Rattle.forms.specs.Kinds.{typed_link, with_links};
 ghost use Rattle.forms.specs.Kinds.{link_width, link_placed, link_offered, link_sized, link_adds};
 
-use crate::row::Row;
+use crate::row::Typed;
 use judge::Counts;
 use judge::values::{link_fault, piece_fault};
-use records::put::put_record;
+use records::put::{Kind, Row};
 use rules::fault::Fault;
 use rules::{Link, Piece};
 
-impl Row<4> for Piece {
+impl Typed<4> for Piece {
     ghost typed = { typed_piece };
 
     ghost row_of = { piece_row };
@@ -32,9 +32,14 @@ impl Row<4> for Piece {
     }
 
     #[tactic(auto, unfolding(rules::specs::Writing::piece_record, rules::specs::Bytes::word))]
-    fn put(row: &[u32; 4], buffer: &mut [u8], at: usize) {
+    fn record(row: &[u32; 4]) -> Row {
         let [desk, duration, release, due] = *row;
-        put_record(buffer, at, 1, desk as u8, duration as u16, release, due, 0);
+        Row {
+            kind: Kind::Piece,
+            desk: desk as u8,
+            number: duration as u16,
+            words: [release, due, 0],
+        }
     }
 
     fn counts(before: Counts, rows: usize) -> Counts {
@@ -55,7 +60,7 @@ impl Row<4> for Piece {
     ghost adds = { piece_adds };
 }
 
-impl Row<3> for Link {
+impl Typed<3> for Link {
     ghost typed = { typed_link };
 
     ghost row_of = { link_row };
@@ -73,18 +78,14 @@ impl Row<3> for Link {
 
     // Piece after and handover make one word.
     #[tactic(auto, unfolding(rules::specs::Writing::link_record))]
-    fn put(row: &[u32; 3], buffer: &mut [u8], at: usize) {
+    fn record(row: &[u32; 3]) -> Row {
         let [before, after, handover] = *row;
-        put_record(
-            buffer,
-            at,
-            2,
-            0,
-            before as u16,
-            after + 65536 * handover,
-            0,
-            0,
-        );
+        Row {
+            kind: Kind::Link,
+            desk: 0,
+            number: before as u16,
+            words: [after + 65536 * handover, 0, 0],
+        }
     }
 
     fn counts(before: Counts, rows: usize) -> Counts {

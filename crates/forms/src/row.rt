@@ -1,19 +1,21 @@
-// One row of a form, of a piece or of a link: judged as the reader judges its record, and put as that record.
+// One row of a form, of a piece or of a link: judged as the reader judges its record, and what that
+// record is.
 ghost use Rattle.std.specs.Prelude.{◌≡◌, ◌+◌, ◌*◌, ◌<◌, ◌≤◌, ℕ, List, length, get_or};
-ghost use Rattle.std.proofs.lemmas.List.Edits.{sets};
 ghost use Rattle.rules.specs.Job.{Job};
 ghost use Rattle.rules.specs.Reading.{order_fault, first_fault};
 ghost use Rattle.rules.specs.Form.{offer_fault};
 ghost use Rattle.rules.specs.Told.{fault_of};
 ghost use Rattle.judge.specs.Says.{Says};
+ghost use Rattle.records.specs.Laid.{row_bytes};
 ghost use Rattle.forms.specs.Rows.{AddsInTurn, CountsOn};
 
 use judge::Counts;
 use judge::entry::Entry;
+use records::put::Row;
 use rules::fault::Fault;
 
 /// An entry that a form types as a row of N numbers.
-pub trait Row<const N: usize>: Entry {
+pub trait Typed<const N: usize>: Entry {
     // What a row says, and row i of the rows of a form.
     ghost typed: { List ℕ → Self };
 
@@ -31,11 +33,10 @@ pub trait Row<const N: usize>: Entry {
     fn judge_typed(row: &[u32; N], before: Counts) -> Result<(), Fault>
         ensures { Says before (fault_of result) (λ J. Self.fault J (typed row.now)) };
 
-    /// The record of a row, at a place of the lent buffer.
-    fn put(row: &[u32; N], buffer: &mut [u8], at: usize)
-        requires room { at + 16 ≤ length buffer.old }
-        requires held { Held (typed row.now) }
-        ensures { buffer.new ≡ sets buffer.old at (bytes (typed row.now)) };
+    /// The record of a row.
+    fn record(row: &[u32; N]) -> Row
+        requires { Held (typed row.now) }
+        ensures { row_bytes result ≡ bytes (typed row.now) };
 
     /// The counts behind so many rows more.
     fn counts(before: Counts, rows: usize) -> Counts
@@ -56,7 +57,7 @@ pub trait Row<const N: usize>: Entry {
 }
 
 /// A row judged behind so many pieces and links: its order, then its values.
-pub fn judge_row<const N: usize, R: Row<N>>(row: &[u32; N], before: Counts) -> Result<(), Fault>
+pub fn judge_row<const N: usize, R: Typed<N>>(row: &[u32; N], before: Counts) -> Result<(), Fault>
     ensures { Says before (fault_of result) (λ J. offer_fault J (R.item (R.typed row.now))) }
 {
     R::judge_order(before)?;

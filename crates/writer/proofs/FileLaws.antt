@@ -1,9 +1,7 @@
 -- The writer's promise, by the way it ends: refused for the form, refused for the room, or written.
 use Rattle.std.specs.Prelude.{ℕ, ◌+◌, ◌*◌, ◌/◌, ◌≤◌, ◌<◌, List, ◌++◌, ◌≡◌, length, drop, Ok, Err}
 use Rattle.std.proofs.Common.{arith, sym, ap, ◌∙◌}
-use Rattle.std.proofs.lemmas.List.Edits.{sets}
 use borrow.Author.Tests.{lt-ltb, le-ltb}
-use lib.Seq.{sets-eq}
 use Rattle.rules.specs.Words.{below, joined}
 use Rattle.rules.specs.Job.{Job, Outcome, refused, accepted}
 use Rattle.rules.specs.Judgement.{then_judge, refuse}
@@ -14,13 +12,13 @@ use Rattle.rules.specs.Form.{write_buffer_of, write_answer, write_buffer}
 use Rattle.rules.specs.Told.{refusal_of, write_answer_told}
 use Rattle.rules.specs.declared.fault.Fault.TheVariants.{NoRoomForFile}
 use Rattle.rules.specs.declared.fault.Refusal.{Refusal}
-use Rattle.laws.proofs.Words.{length-below, when_true, when_false}
+use Rattle.laws.proofs.Words.{when_true, when_false}
 use Rattle.laws.proofs.Joined.{map_twice}
-use Rattle.laws.proofs.Reread.{records_long, piece_sized, file_parts, file_long}
-use Rattle.records.proofs.Stores.{sets_on}
+use Rattle.laws.proofs.Reread.{piece_sized, file_parts, file_long}
 use Rattle.demands.specs.Promises.{WritePromise}
-use Rattle.forms.specs.Written.{row_bytes}
+use Rattle.forms.specs.Written.{rows_bytes}
 use Rattle.forms.proofs.InTurn.{rows_count}
+use Rattle.forms.proofs.RowsPut.{rows_long}
 
 module _ (pieces links buffer : List ℕ) where
   abbrev F : Job
@@ -65,36 +63,29 @@ module _ (pieces links buffer : List ℕ) where
 
     -- The records of pieces and links are the file.
     abbrev of_pieces : List ℕ
-    of_pieces = row_bytes (λ i. piece_record (piece_row pieces i)) (length pieces / 4)
+    of_pieces = rows_bytes (λ i. piece_record (piece_row pieces i)) (length pieces / 4)
 
     abbrev of_links : List ℕ
-    of_links = row_bytes (λ k. link_record (link_row links k)) (length links / 3)
+    of_links = rows_bytes (λ k. link_record (link_row links k)) (length links / 3)
 
     file_bytes : of_pieces ++ of_links ≡ file_of F
-    unfolding form_job row_bytes
+    unfolding form_job rows_bytes
     file_bytes =
         sym (file_parts F
         ∙ λ i. joined (map_twice (piece_row pieces) piece_record (below (length pieces / 4)) i)
         ++ joined (map_twice (link_row links) link_record (below (length links / 3)) i))
 
-    pieces_long : length of_pieces ≡ behind
-    unfolding row_bytes
+    pub pieces_long : length of_pieces ≡ behind
     pieces_long =
-        records_long (λ i. piece_record (piece_row pieces i)) (λ i. piece_sized (piece_row pieces i))
-        (below (length pieces / 4))
-        ∙ ap (λ k. 16 * k) (length-below (length pieces / 4))
+        rows_long (λ i. piece_record (piece_row pieces i)) (λ i. piece_sized (piece_row pieces i)) (length pieces / 4)
 
-    pub written : (first last : List ℕ) → bytes ≤ length buffer → first ≡ sets buffer 0 of_pieces
-        → last ≡ sets first behind of_links → WritePromise pieces links buffer (write_answer_told (Ok bytes)) last
-    unfolding write_outcome then_judge unless_no_room write_answer_of write_buffer_of at_front
-    written first last room p q =
-        let there : behind ≡ 0 + length of_pieces = omega (arith, pieces_long) in
-        let z : 0 + length (file_of F) ≡ length (file_of F) = omega arith in
-        let stored : last ≡ file_of F ++ drop (length (file_of F)) buffer =
-        q ∙ ap (λ l. sets l behind of_links) p ∙ ap (λ k. sets (sets buffer 0 of_pieces) k of_links) there
-        ∙ sets_on buffer 0 of_pieces of_links
-        ∙ ap (sets buffer 0) file_bytes ∙ sets-eq (file_of F) buffer 0 (omega (arith, form_long))
-        ∙ ap (λ k. file_of F ++ drop k buffer) z in
-        rw (stored, ← form_long) (by_outcome (accepted F)
+    pub records_fit : bytes ≤ length buffer → length (of_pieces ++ of_links) ≤ length buffer
+    records_fit room = omega (arith, ap (λ l. length l) file_bytes, form_long, room)
+
+    pub written : (last : List ℕ) → bytes ≤ length buffer → last ≡ at_front (of_pieces ++ of_links) buffer
+        → WritePromise pieces links buffer (write_answer_told (Ok bytes)) last
+    unfolding write_outcome then_judge unless_no_room write_answer_of write_buffer_of
+    written last room stored =
+        rw (stored ∙ ap (λ l. at_front l buffer) file_bytes, ← form_long) (by_outcome (accepted F)
         (ap (λ o. then_judge o (unless_no_room (length buffer))) fine
         ∙ when_false _ _ _ (le-ltb (length buffer) (length (file_of F)) (omega (arith, form_long)))))

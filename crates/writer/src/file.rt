@@ -8,6 +8,7 @@ ghost use Rattle.forms.specs.Judged.{outcome_or};
 
 use forms::rows::{judge_rows, put_rows};
 use judge::Counts;
+use records::lent::Lent;
 use rules::fault::{Fault, Refusal};
 use rules::{Link, Piece};
 
@@ -49,7 +50,11 @@ pub fn write_file(pieces: &[u32], links: &[u32], buffer: &mut [u8]) -> Result<u3
             place: 0,
         });
     }
-    put_rows::<4, Piece>(pieces, 0, buffer);
-    put_rows::<3, Link>(links, behind, buffer);
+    let mut lent = Lent {
+        bytes: buffer,
+        at: 0,
+    };
+    put_rows::<4, Piece>(pieces, &mut lent);
+    put_rows::<3, Link>(links, &mut lent);
     Ok(bytes as u32)
 }

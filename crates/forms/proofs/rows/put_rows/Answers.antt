@@ -1,36 +1,45 @@
--- `put_rows` meets its contract: each record is stored right behind the ones before it.
-use Rattle.std.proofs.Common.{arith, ap, ◌∙◌, ◌+◌, ◌*◌, refl}
-use Rattle.std.proofs.lemmas.List.Edits.{sets}
-use Rattle.rules.specs.Words.{row, below, joined}
-use Rattle.records.proofs.InARow.{put_more}
-use Rattle.forms.specs.Written.{row_bytes}
+-- `put_rows` meets its contract: each record is put right after the ones before it.
+use Rattle.std.proofs.Common.{arith, ap, ◌∙◌, ◌++◌, ℕ, List}
+use Rattle.records.proofs.PutLaws.{nothing_put, puts_on, puts_as, room_left}
+use Rattle.forms.specs.Written.{rows_bytes}
 use Rattle.forms.proofs.Chunks.{at_row}
+use Rattle.forms.proofs.RowsPut.{no_rows, rows_more, rows_long}
 use Rattle.forms.proofs.rows.put_rows.Goals as goal
 
 pub as_chunks-requires : goal.as_chunks-requires
-as_chunks-requires g c = let w = g.met.R.Row.width in (omega (arith, w), w.0)
+as_chunks-requires g c = let w = g.met.R.Typed.width in (omega (arith, w), w.0)
 
-pub loop-i-init : goal.loop-i-init
-unfolding row_bytes below row joined
-loop-i-init g c = refl
+pub loop-row-init : goal.loop-row-init
+loop-row-init g c = puts_as (nothing_put c.args.lent.now) (no_rows _)
+
+pub record-requires : goal.record-requires
+record-requires g c =
+    let w = g.met.R.Typed.width in
+    let rows = c.args.rows.now in
+    let i = c.loop-row.row-index in
+    let here = g.met.R.Typed.placed _ rows i
+    (at_row g.row.N _ rows _ i _ c.as_chunks.ensures.front (omega arith) c.row-item.is) in
+    (omega (arith, w), rw here (c.requires.held i (omega arith)))
 
 pub put-requires : goal.put-requires
 put-requires g c =
-    let w = g.met.R.Row.width in
+    let R = g.R.Typed in
     let rows = c.args.rows.now in
-    let i = c.loop-i.i in
-    let here = g.met.R.Row.placed _ rows i
-    (at_row g.row.N _ rows _ i _ c.as_chunks.ensures.front (omega arith) c.index-whole-i.is) in
-    (omega (arith, w), (omega arith, rw here (c.requires.held i (omega arith))))
+    let long = rows_long (λ k. R.bytes (R.row_of rows k)) (λ k. g.met.R.Typed.sized (R.row_of rows k)) c.loop-row.row-index in
+    room_left 16 c.loop-row.invariant (omega (arith, long, c.requires.room))
 
-pub loop-i-preserved : goal.loop-i-preserved
-unfolding row_bytes
-loop-i-preserved g c =
-    let R = g.R.Row in
+pub loop-row-preserved : goal.loop-row-preserved
+loop-row-preserved g c =
+    let R = g.R.Typed in
     let rows = c.args.rows.now in
-    let i = c.loop-i.i in
-    let at = c.args.from + 16 * i in
-    let here = g.met.R.Row.placed _ rows i
-    (at_row g.row.N _ rows _ i _ c.as_chunks.ensures.front (omega arith) c.index-whole-i.is) in
-    (put_more (λ k. R.bytes (R.row_of rows k)) (λ k. g.met.R.Row.sized (R.row_of rows k)) c.args.buffer.now c.args.from
-    c.loop-i.buffer _ i c.loop-i.invariant (c.put.ensures ∙ ap (λ e. sets c.loop-i.buffer at (R.bytes e)) here)).1
+    let i = c.loop-row.row-index in
+    let here = g.met.R.Typed.placed _ rows i
+    (at_row g.row.N _ rows _ i _ c.as_chunks.ensures.front (omega arith) c.row-item.is) in
+    let made : ℕ → List ℕ = λ k. R.bytes (R.row_of rows k) in
+    puts_as (puts_on c.loop-row.invariant c.put.ensures)
+    (ap (λ bytes. rows_bytes made i ++ bytes) (c.record.ensures ∙ ap R.bytes here) ∙ rows_more made i)
+
+pub returns : goal.returns
+returns g c =
+    let R = g.R.Typed in
+    puts_as c.loop-row.invariant (ap (rows_bytes (λ k. R.bytes (R.row_of c.args.rows.now k))) (omega arith))

@@ -1,9 +1,10 @@
 -- `write_file` meets its contract: everything is judged before the first byte, and what is written is the file.
-use Rattle.std.proofs.Common.{arith, rules, ◌≡◌}
+use Rattle.std.proofs.Common.{arith, rules, refl, sym, ◌∙◌, ◌≡◌, ◌+◌, ◌*◌, ◌/◌, ◌≤◌, length}
 use Rattle.rules.specs.Job.{accepted}
 use Rattle.rules.specs.Form.{form_job, form_outcome}
 use Rattle.writer.proofs.FormLaws.{few_rows, pieces_held, links_held}
-use Rattle.writer.proofs.FileLaws.{form_refused, no_room, written}
+use Rattle.writer.proofs.FileLaws.{form_refused, no_room, pieces_long, records_fit, written}
+use Rattle.records.proofs.PutLaws.{puts_on, front_is, room_left}
 use Rattle.writer.proofs.file.write_file.Goals as goal
 
 pub returns-in_err-judge_form : goal.returns-in_err-judge_form
@@ -36,7 +37,12 @@ pub put_rows-requires-2 : goal.put_rows-requires-2
 put_rows-requires-2 c =
     let a = c.args in
     let fine : form_outcome a.pieces.now a.links.now ≡ accepted (form_job a.pieces.now a.links.now) = search rules in
-    record { room = omega arith; held = links_held a.pieces.now a.links.now _ fine }
+    record {
+      room =
+          room_left (16 * (length a.links.now / 3)) c.put_rows.ensures
+          (omega (arith, pieces_long a.pieces.now a.links.now a.buffer.now fine));
+      held = links_held a.pieces.now a.links.now _ fine;
+    }
 
 pub overflow_cast-result : goal.overflow_cast-result
 overflow_cast-result c =
@@ -49,4 +55,8 @@ pub returns : goal.returns
 returns c =
     let a = c.args in
     let fine : form_outcome a.pieces.now a.links.now ≡ accepted (form_job a.pieces.now a.links.now) = search rules in
-    written a.pieces.now a.links.now a.buffer.now fine _ _ (omega arith) c.put_rows.ensures c.put_rows-2.ensures
+    let room : 16 * (length a.pieces.now / 4) + 16 * (length a.links.now / 3) ≤ length a.buffer.now = omega arith in
+    let both = puts_on c.put_rows.ensures c.put_rows-2.ensures in
+    written a.pieces.now a.links.now a.buffer.now fine _ room
+    (c.buffer-1.given.1.1 (sym both.same)
+    ∙ front_is refl (records_fit a.pieces.now a.links.now a.buffer.now fine room) both)
