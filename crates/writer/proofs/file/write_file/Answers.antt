@@ -57,6 +57,6 @@ returns c =
     let fine : form_outcome a.pieces.now a.links.now ≡ accepted (form_job a.pieces.now a.links.now) = search rules in
     let room : 16 * (length a.pieces.now / 4) + 16 * (length a.links.now / 3) ≤ length a.buffer.now = omega arith in
     let both = puts_on c.put_rows.ensures c.put_rows-2.ensures in
-    written a.pieces.now a.links.now a.buffer.now fine _ room
-    (c.buffer-1.given.1.1 (sym both.same)
-    ∙ front_is refl (records_fit a.pieces.now a.links.now a.buffer.now fine room) both)
+    let same = sym both.same in
+    let stored = front_is refl (records_fit a.pieces.now a.links.now a.buffer.now fine room) both in
+    written a.pieces.now a.links.now a.buffer.now fine _ room (search rules ∙ stored)
