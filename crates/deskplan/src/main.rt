@@ -2,33 +2,25 @@
 // are read. A refused file is no failure: its listing is one line. What cannot be read or written is told on standard error.
 #![tactic(auto)]
 
-ghost use Rattle.std.specs.Prelude.{◌+◌, ◌≤◌, length, IfOk};
+ghost use Rattle.std.specs.Prelude.{◌≤◌, length, IfOk};
 
 use deskplan_text::write_listing;
 use std::io;
 use std::io::Read;
 
-// One read into the file from a place on: how many bytes came, 0 at the end of the input.
-fn read_more(rt: &HostRuntime, file: &mut [u8], done: usize) -> io::Result<usize>
-    requires { done ≤ length file.old }
-    ensures { IfOk result (λ n. done + n ≤ length file.new) }
-{
-    let mut input = rt.stdin();
-    input.read(&mut file[done..])
-}
-
-// Reads until the file is full or the input ends: how many bytes came.
+// Reads until the file is full or the input ends: how many bytes came. No index loop, as a read brings as many bytes as
+// it will; and no `io::copy`, which reads less at a time (8,192 bytes) and so would cut a longer packet.
 fn read_file(rt: &HostRuntime, file: &mut [u8]) -> io::Result<usize>
     requires { length file.old ≤ 20496 }
     ensures { IfOk result (λ n. n ≤ length file.new) }
 {
+    let mut input = rt.stdin();
     let mut done = 0;
     while done < file.len() {
-        let n = read_more(rt, file, done)?;
-        if n == 0 {
-            return Ok(done);
+        match input.read(&mut file[done..])? {
+            0 => return Ok(done),
+            n => done += n,
         }
-        done += n;
     }
     Ok(done)
 }
