@@ -1,6 +1,6 @@
 // One row of a form, of a piece or of a link: judged as the reader judges its record, and what that
 // record is.
-ghost use Rattle.std.specs.Prelude.{◌≡◌, ◌+◌, ◌*◌, ◌<◌, ◌≤◌, ℕ, List, length, get_or};
+ghost use Rattle.std.specs.Prelude.{◌≡◌, ◌+◌, ◌*◌, ◌^◌, ◌<◌, ◌≤◌, ℕ, List, length, get_or};
 ghost use Rattle.rules.specs.Job.{Job};
 ghost use Rattle.rules.specs.Reading.{order_fault, first_fault};
 ghost use Rattle.rules.specs.Form.{offer_fault};
@@ -40,14 +40,16 @@ pub trait Typed<const N: usize>: Entry {
 
     /// The counts behind so many rows more.
     fn counts(before: Counts, rows: usize) -> Counts
-        requires { before.pieces + before.links + rows < 18446744073709551616 }
+        requires { before.pieces + before.links + rows < 2 ^ 64 }
         ensures { CountsOn added before rows result };
 
+    // Such a row is short, and it says what row i says where its numbers are those of row i.
     ghost width: { (0 < N) × (N ≤ 4) };
 
     ghost placed: { (row rows : List ℕ) (i : ℕ) → ((j : ℕ) → j < N → get_or row j 0 ≡ get_or rows (N * i + j) 0)
         → typed row ≡ row_of rows i };
 
+    // An offer is judged for its order, then its values; its record has 16 bytes; offers are added in their order.
     ghost offered: { (J : Job) (e : Self)
         → offer_fault J (Self.item e) ≡ first_fault (order_fault Self.kind J) (Self.fault J e) };
 

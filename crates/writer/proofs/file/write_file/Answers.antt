@@ -4,7 +4,7 @@ use Rattle.rules.specs.Job.{accepted}
 use Rattle.rules.specs.Form.{form_job, form_outcome}
 use Rattle.writer.proofs.FormLaws.{few_rows, pieces_held, links_held}
 use Rattle.writer.proofs.FileLaws.{form_refused, no_room, pieces_long, records_fit, written}
-use Rattle.records.proofs.PutLaws.{puts_on, front_is, room_left}
+use Rattle.records.proofs.PutLaws.{puts_on, puts_sized, front_is}
 use Rattle.writer.proofs.file.write_file.Goals as goal
 
 pub returns-in_err-judge_form : goal.returns-in_err-judge_form
@@ -37,10 +37,9 @@ pub put_rows-requires-2 : goal.put_rows-requires-2
 put_rows-requires-2 c =
     let a = c.args in
     let fine : form_outcome a.pieces.now a.links.now ≡ accepted (form_job a.pieces.now a.links.now) = search rules in
+    let long = pieces_long a.pieces.now a.links.now a.buffer.now fine in
     record {
-      room =
-          room_left (16 * (length a.links.now / 3)) c.put_rows.ensures
-          (omega (arith, pieces_long a.pieces.now a.links.now a.buffer.now fine));
+      room = omega (arith, long, c.put_rows.ensures.past, puts_sized c.put_rows.ensures);
       held = links_held a.pieces.now a.links.now _ fine;
     }
 
