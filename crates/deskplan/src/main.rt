@@ -1,5 +1,6 @@
-// deskplan: reads a job file on standard input and prints the plan. The first 20,496 bytes decide any longer file, and no more
-// are read. A refused file is no failure: its listing is one line. What cannot be read or written is told on standard error.
+// deskplan: reads a job file on standard input and prints the plan. The first 20,496 bytes decide any longer file, and
+// no more are read. A refused file is no failure: its listing is one line. What cannot be read or written is told on
+// standard error.
 #![tactic(auto)]
 
 ghost use Rattle.std.specs.Prelude.{◌≤◌, length, IfOk};

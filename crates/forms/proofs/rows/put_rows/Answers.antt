@@ -25,7 +25,8 @@ pub put-requires : goal.put-requires
 put-requires g c =
     let R = g.R.Typed in
     let rows = c.args.rows.now in
-    let long = rows_long (λ k. R.bytes (R.row_of rows k)) (λ k. g.met.R.Typed.sized (R.row_of rows k)) c.loop-row.row-index in
+    let made : ℕ → List ℕ = λ k. R.bytes (R.row_of rows k) in
+    let long = rows_long made (λ k. g.met.R.Typed.sized (R.row_of rows k)) c.loop-row.row-index in
     room_left 16 c.loop-row.invariant (omega (arith, long, c.requires.room))
 
 pub loop-row-preserved : goal.loop-row-preserved
