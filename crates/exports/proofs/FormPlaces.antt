@@ -86,8 +86,3 @@ module _ (pieces links : List ℕ) where
       go : (o : Outcome) → place_of o ≤ rows → (write_answer_of o).place ≤ rows
       go (refused r) h = h
       go (accepted J) h = h
-
--- The numbers of an answer in a row.
-pub in_write_row : (a : WriteAnswer) (number place bytes : ℤ) → number ≡ pos a.number → place ≡ pos a.place
-    → bytes ≡ pos a.bytes → number ∷ place ∷ bytes ∷ [] ≡ write_row a
-in_write_row a number place bytes p q r = rw (p, q, r)

@@ -86,14 +86,3 @@ sheet_place file d buffer = go (block_outcome file d (length buffer))
     go : (o : Outcome) → Near file o → (block_answer_of o d).place ≤ length file / 16 + 256
     go (refused r) h = h
     go (accepted J) h = h
-
--- The numbers of an answer in a row.
-pub in_plan_row : (a : PlanAnswer) (number place pieces runs end worst : ℤ) → number ≡ pos a.number → place ≡ pos a.place
-    → pieces ≡ pos a.pieces → runs ≡ pos a.runs → end ≡ pos a.end → worst ≡ a.worst
-    → number ∷ place ∷ pieces ∷ runs ∷ end ∷ worst ∷ [] ≡ plan_row a
-in_plan_row a number place pieces runs end worst p q r s t u = rw (p, q, r, s, t, u)
-
-pub in_sheet_row : (a : BlockAnswer) (number place blocks runs worst : ℤ) → number ≡ pos a.number → place ≡ pos a.place
-    → blocks ≡ pos a.blocks → runs ≡ pos a.runs → worst ≡ a.worst
-    → number ∷ place ∷ blocks ∷ runs ∷ worst ∷ [] ≡ sheet_row a
-in_sheet_row a number place blocks runs worst p q r s t = rw (p, q, r, s, t)

@@ -1,13 +1,10 @@
 -- The place of a refusal is that of a row, or the count of whole rows, so it fits.
-use native.Mathlib.Omega.{arith}
-use mathlib.Core.Path.{ap}
+use Rattle.std.proofs.Common.{◌≡◌, sym, ap, ◌∙◌, arith}
+use Rattle.rules.specs.Told.{write_answer_told}
 use Rattle.exports.proofs.FormPlaces.{write_place}
 use Rattle.exports.proofs.desk_write.Goals as goal
 
-pub place-requires : goal.place-requires
-place-requires c =
-    omega (
-      arith,
-      ap (λ x. x.place) c.write_file-a.ensures.answered,
-      write_place c.args.pieces.now c.args.links.now c.args.buffer.now,
-    )
+pub refused-requires : goal.refused-requires
+refused-requires c =
+    let placed = ap (λ x. x.place) (sym (ap write_answer_told c.in-Err.is) ∙ c.write_file.ensures.answered) in
+    (omega arith, omega (arith, placed, write_place c.args.pieces.now c.args.links.now c.args.buffer.now))
