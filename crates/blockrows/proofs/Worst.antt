@@ -1,5 +1,6 @@
 -- The worst lateness over the runs, one run after another. Assumes nothing.
-use Rattle.std.proofs.Common.{ℕ, ◌+◌, ◌≤◌, ◌<◌, List, [], ◌∷◌, ◌++◌, ◌≡◌, ◌∙◌, refl, sym, ap, map, length, get_or, take, arith, ◌^◌, ℤ, pos, ◌-ℤ◌, SFits, w32, to_z, of_z}
+use Rattle.std.proofs.Common.{ℕ, ◌+◌, ◌≤◌, ◌<◌, List, [], ◌∷◌, ◌++◌, ◌≡◌, ◌∙◌, refl, sym, ap, map, length, get_or, take}
+use Rattle.std.proofs.Common.{arith, ◌^◌, ℤ, pos, ◌-ℤ◌, SFits, w32, to_z, of_z}
 use Rattle.std.specs.Prelude.{nat_abs}
 use Rattle.std.specs.Int.{int_max}
 use Rattle.std.proofs.lemmas.Int.{ints, to_z-of_z}

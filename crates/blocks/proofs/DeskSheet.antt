@@ -1,6 +1,7 @@
 -- One desk of a job: the list of its entries stands for its entries in order; so the rows are its blocks, the board holds
 -- its runs, and the worst lateness over the runs is the sheet's. Assumes nothing.
-use Rattle.std.proofs.Common.{ℕ, ◌≤◌, ◌<◌, List, [], ◌≡◌, ◌∙◌, sym, ap, ap₂, map, subst, length, get_or, eqb, None, ℤ, pos, ◌-ℤ◌, arith}
+use Rattle.std.proofs.Common.{ℕ, ◌≤◌, ◌<◌, List, [], ◌≡◌, ◌∙◌, sym, ap, ap₂, map, subst, length, get_or, eqb, None, ℤ}
+use Rattle.std.proofs.Common.{pos, ◌-ℤ◌, arith}
 use Rattle.std.proofs.Math.Option.{none}
 use Rattle.std.proofs.lemmas.List.{length-map}
 use mathlib.Core.List.{Memᴰ as Mem}

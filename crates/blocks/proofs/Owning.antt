@@ -1,6 +1,7 @@
 -- The links of one desk, link by link: one more that both its pieces put there, or one that is no link of the desk.
 -- Assumes nothing.
-use Rattle.std.proofs.Common.{ℕ, ◌+◌, ◌≤◌, ◌<◌, Bool, false, ◌&&◌, ◌||◌, List, [], ◌∷◌, ◌++◌, ◌≡◌, ◌∙◌, refl, sym, ap, length, get_or, take, eqb, arith}
+use Rattle.std.proofs.Common.{ℕ, ◌+◌, ◌≤◌, ◌<◌, Bool, false, ◌&&◌, ◌||◌, List, [], ◌∷◌, ◌++◌, ◌≡◌, ◌∙◌, refl, sym, ap}
+use Rattle.std.proofs.Common.{length, get_or, take, eqb, arith}
 use Rattle.std.proofs.lemmas.List.{length_push, get_or_push, get_or_append_left}
 use borrow.Author.Tests.{ne_eqb}
 use Rattle.rules.specs.Rings.{linked_by}
@@ -19,18 +20,6 @@ module _ (d : ℕ) (desks : List ℕ) (ls : List Link) where
   pub record Picked (n : ℕ) (own : List Link) : Type 0 where
     pub few : length own ≤ n
     pub are : OwnLinks d desks (take n ls) own
-
-  pub picked_none : (own : List Link) → own ≡ [] → Picked 0 own
-  picked_none own none = rw none (record {
-    few = omega arith;
-    are = record {
-      links = record {
-        before_known = λ k h. absurd (omega arith);
-        after_known = λ k h. absurd (omega arith);
-      };
-      same = λ i j p q. refl;
-    };
-  })
 
   module _ (n : ℕ) (own : List Link) (g : Picked n own) (some : n < length ls) where
     abbrev link : Link

@@ -1,9 +1,11 @@
 -- Who is set aside, looked for from the last piece of a block to the first: the best of those behind gives the best of
 -- all. And the slice without it. Assumes nothing.
-use Rattle.std.proofs.Common.{ℕ, ◌+◌, ◌≤◌, ◌<◌, Bool, true, false, not, ◌||◌, List, [], ◌∷◌, ◌++◌, ◌≡◌, ◌∙◌, refl, sym, ap, map, length, get_or, set, take, drop, eqb, Some, None, arith}
+use Rattle.std.proofs.Common.{ℕ, ◌+◌, ◌≤◌, ◌<◌, Bool, true, false, not, ◌||◌, List, [], ◌∷◌, ◌++◌, ◌≡◌, ◌∙◌, refl, sym}
+use Rattle.std.proofs.Common.{ap, map, length, get_or, set, take, drop, eqb, Some, None, arith}
 use Rattle.std.specs.Prelude.{Option as Maybe}
 use Rattle.std.proofs.Math.Option.{Option, none, some, none-ne-some, some-injective}
-use Rattle.std.proofs.lemmas.List.{append_assoc, append-nil, map-append, length-append, length-set, get_or_at, take_more, take_more_set, take_all, drop_more, drop-set-lt, get_or-drop}
+use Rattle.std.proofs.lemmas.List.{append_assoc, append-nil, map-append, length-append, length-set, get_or_at}
+use Rattle.std.proofs.lemmas.List.{take_more, take_more_set, take_all, drop_more, drop-set-lt, get_or-drop}
 use mathlib.Core.List.Memᴰ.{head as here}
 use mathlib.Core.List.Memᴰ.{tail as there}
 use mathlib.Core.List.{Memᴰ as Mem}
@@ -240,10 +242,3 @@ module _ (start es : List Struct) (number kept k : ℕ) (g : Keeping start es nu
     rest = drop-set-lt (k + 1) es kept (entry_at es k) (omega (arith, g.behind)) ∙ next_rest;
     behind = omega (arith, g.behind);
   }
-
-pub keeping_end : (start es : List Struct) (number kept k : ℕ) → Keeping start es number kept k → length es ≡ k
-    → Without start number es kept
-keeping_end start es number kept k g h = record {
-  rest = g.front ∙ ap (keep (λ e. not (eqb e.number number))) (take_all k start (omega (arith, g.sized)));
-  within = omega (arith, g.behind);
-}

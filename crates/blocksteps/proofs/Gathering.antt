@@ -1,6 +1,7 @@
 -- A block while it is gathered, piece by piece: what is left to gather gives the blocks of the whole set. Assumes
 -- nothing.
-use Rattle.std.proofs.Common.{ℕ, ◌+◌, ◌≤◌, ◌<◌, List, [], ◌∷◌, ◌≡◌, ◌∙◌, refl, sym, ap, map, length, take, drop, leb, arith}
+use Rattle.std.proofs.Common.{ℕ, ◌+◌, ◌≤◌, ◌<◌, List, [], ◌∷◌, ◌≡◌, ◌∙◌, refl, sym, ap, map, length, take, drop, leb}
+use Rattle.std.proofs.Common.{arith}
 use Rattle.std.proofs.lemmas.List.{map-append, take_more, drop_more, drop_all}
 use borrow.Author.Tests.{le-leb, lt-leb}
 use Rattle.rules.specs.Entries.{Entry}

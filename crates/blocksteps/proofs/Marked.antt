@@ -1,6 +1,8 @@
 -- Marks of a block's pieces, store by store: a member more, a link more. Assumes nothing.
-use Rattle.std.proofs.Common.{ℕ, ◌+◌, ◌<◌, Bool, true, false, ◌&&◌, ◌||◌, List, [], ◌∷◌, ◌++◌, ◌≡◌, ◌∙◌, refl, sym, ap, length, get_or, set, take, replicate, eqb, arith}
-use Rattle.std.proofs.lemmas.List.{length-set, get_or-set_same, get_or-set_other, take_more, length-replicate, get_or-replicate}
+use Rattle.std.proofs.Common.{ℕ, ◌+◌, ◌<◌, Bool, true, false, ◌&&◌, ◌||◌, List, [], ◌∷◌, ◌++◌, ◌≡◌, ◌∙◌, refl, sym, ap}
+use Rattle.std.proofs.Common.{length, get_or, set, take, replicate, eqb, arith}
+use Rattle.std.proofs.lemmas.List.{length-set, get_or-set_same, get_or-set_other, take_more, length-replicate}
+use Rattle.std.proofs.lemmas.List.{get_or-replicate}
 use borrow.Author.Tests.{eq-eqb, ne_eqb}
 use Rattle.rules.specs.Words.{when, one_of}
 use Rattle.rules.specs.Rings.{linked_by}

@@ -1,5 +1,6 @@
 -- The board in the list of its runs: a stretch put at the end, or a later end put into the last one. Assumes nothing.
-use Rattle.std.proofs.Common.{ℕ, ◌+◌, ◌-◌, ◌≤◌, ◌<◌, true, false, ◌&&◌, List, [], ◌∷◌, ◌++◌, ◌≡◌, ◌∙◌, refl, sym, ap, length, get_or, set, take, eqb, ltb, arith}
+use Rattle.std.proofs.Common.{ℕ, ◌+◌, ◌-◌, ◌≤◌, ◌<◌, true, false, ◌&&◌, List, [], ◌∷◌, ◌++◌, ◌≡◌, ◌∙◌, refl, sym, ap}
+use Rattle.std.proofs.Common.{length, get_or, set, take, eqb, ltb, arith}
 use Rattle.std.specs.Prelude.{reverse}
 use Rattle.std.specs.List.{refill}
 use Rattle.std.proofs.Math.Option.{some}

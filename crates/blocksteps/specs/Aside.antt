@@ -1,6 +1,7 @@
 -- Who is set aside of a block: a mark for each piece says whether it is in the block and whether a piece after it by a
 -- direct link is; of those without one, the one that costs least.
-use Rattle.std.specs.Prelude.{ℕ, ◌≤◌, ◌<◌, Bool, not, List, map, ◌≡◌, eqb, length, get_or, take, Option as Maybe, Some, None}
+use Rattle.std.specs.Prelude.{ℕ, ◌≤◌, ◌<◌, Bool, not, List, map, ◌≡◌, eqb, length, get_or, take, Option as Maybe, Some}
+use Rattle.std.specs.Prelude.{None}
 use Rattle.std.proofs.Math.Option.{Option, none, some}
 use Rattle.rules.specs.Words.{when, keep, one_of}
 use Rattle.rules.specs.Blocks.{set_aside}

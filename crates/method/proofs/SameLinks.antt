@@ -11,7 +11,8 @@ use mathlib.Core.Path.{◌≡◌, refl, ap, ◌∙◌, subst}
 use lib.Dec.{leb}
 use Rattle.rules.specs.Words.{when, one_of}
 use Rattle.rules.specs.Entries.{Entry}
-use Rattle.rules.specs.Blocks.{Block, block_of, gathered, block_end, gather, cut_in_order, cheapest, without_follower, set_aside, others}
+use Rattle.rules.specs.Blocks.{Block, block_of, gathered, block_end, gather, cut_in_order, cheapest, without_follower}
+use Rattle.rules.specs.Blocks.{set_aside, others}
 use Rattle.laws.proofs.Words.{by_test, keep_same}
 use Rattle.theory.proofs.Lists.{◌∈◌, by-mem}
 use Rattle.theory.proofs.SetAside.{mem_others}

@@ -1,7 +1,8 @@
 -- The board: the stretches of slots given away so far, the last one first. A stretch is one piece's, from its first slot
 -- until one past its last; neighbouring stretches of one piece that touch are one. The code keeps them by time, as the
 -- runs that they become.
-use Rattle.std.specs.Prelude.{ℕ, Bool, false, ◌&&◌, List, [], ◌∷◌, ◌-◌, leb, ltb, eqb, reverse, Option as Maybe, Some, None}
+use Rattle.std.specs.Prelude.{ℕ, Bool, false, ◌&&◌, List, [], ◌∷◌, ◌-◌, leb, ltb, eqb, reverse, Option as Maybe, Some}
+use Rattle.std.specs.Prelude.{None}
 use Rattle.std.proofs.Math.Option.{Option, none, some}
 use Rattle.rules.specs.Words.{when}
 use Rattle.rules.specs.Runs.{Run}

@@ -1,9 +1,11 @@
 -- Cutting a set, block by block, and solving a block: what is left to cut from here gives the board of the whole set.
 -- Assumes nothing.
-use Rattle.std.proofs.Common.{ℕ, zero, suc, ◌+◌, ◌-◌, ◌*◌, ◌≤◌, ◌<◌, Bool, false, not, List, [], ◌∷◌, ◌≡◌, ◌∙◌, refl, sym, ap, map, length, take, drop, eqb, Some, None, arith}
+use Rattle.std.proofs.Common.{ℕ, zero, suc, ◌+◌, ◌-◌, ◌*◌, ◌≤◌, ◌<◌, Bool, false, not, List, [], ◌∷◌, ◌≡◌, ◌∙◌, refl}
+use Rattle.std.proofs.Common.{sym, ap, map, length, take, drop, eqb, Some, None, arith}
 use Rattle.std.specs.Prelude.{Option as Maybe}
 use Rattle.std.proofs.Math.Option.{Option, some}
-use Rattle.std.proofs.lemmas.List.{length-take, length-drop, take_all, length-take-le, get_or-drop, get_or-take, drop-drop}
+use Rattle.std.proofs.lemmas.List.{length-take, length-drop, take_all, length-take-le, get_or-drop, get_or-take}
+use Rattle.std.proofs.lemmas.List.{drop-drop}
 use mathlib.Core.List.Memᴰ.{head as here}
 use mathlib.Core.List.Memᴰ.{tail as there}
 use mathlib.Core.List.{Memᴰ as Mem}

@@ -2,7 +2,8 @@
 -- solved.
 use Rattle.std.proofs.Common.{◌∙◌, ap, length, arith}
 use Rattle.blockrows.proofs.Worst.{back}
-use Rattle.blocks.proofs.DeskSheet.{links_between, count, sheet_listed, sheet_rows, sheet_runs, sheet_dated, sheet_worst}
+use Rattle.blocks.proofs.DeskSheet.{links_between, count, sheet_listed, sheet_rows, sheet_runs, sheet_dated}
+use Rattle.blocks.proofs.DeskSheet.{sheet_worst}
 use Rattle.blocks.proofs.planned.planned_sheet.Goals as goal
 
 pub first_blocks-requires-clause-listed : goal.first_blocks-requires-clause-listed

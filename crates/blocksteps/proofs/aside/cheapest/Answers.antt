@@ -4,7 +4,8 @@ use denote.Enum.Bare.{same_true, same_false}
 use Rattle.entries.specs.declared.list.Entry.{Entry}
 use Rattle.blocksteps.specs.contracts.aside.Mark.{the_type}
 use Rattle.blocksteps.specs.declared.aside.Mark.TheVariants.{Member}
-use Rattle.blocksteps.proofs.Chosen.{Front, front_all, front_less, last_at, last_within, best_of_none, best_take, best_skip, best_of_all}
+use Rattle.blocksteps.proofs.Chosen.{Front, front_all, front_less, last_at, last_within, best_of_none, best_take}
+use Rattle.blocksteps.proofs.Chosen.{best_skip, best_of_all}
 use Rattle.blocksteps.specs.Aside.{Known}
 use Rattle.blocksteps.proofs.aside.cheapest.Goals as goal
 

@@ -6,7 +6,8 @@ use Rattle.blocksteps.specs.declared.aside.Mark.TheVariants.{Outside}
 use Rattle.std.proofs.lemmas.List.{take_all}
 use Rattle.blocksteps.proofs.Marked.{links_none, link_inside, link_from_outside, link_to_outside}
 use Rattle.blocksteps.proofs.aside.mark_led.Goals as goal
-use Rattle.blocksteps.proofs.aside.mark_led.Goals.{then-ne+then-ne-2, else-ne, else-ne-via-then-ne+else-ne-2, else-ne-via-else-ne}
+use Rattle.blocksteps.proofs.aside.mark_led.Goals.{then-ne+then-ne-2, else-ne, else-ne-via-then-ne+else-ne-2}
+use Rattle.blocksteps.proofs.aside.mark_led.Goals.{else-ne-via-else-ne}
 
 pub loop-link-init : goal.loop-link-init
 loop-link-init c es h = links_none _ c.args.links.now es h
@@ -27,8 +28,12 @@ loop-link-preserved c es h =
           (rw c.from-after.ensures at (differs_true the_type _ Outside (sym w.if-ne-2.ensures))))
       | else-ne w ↦ rw w.marks-is
           (elim w.else-ne.branch [
-            | else-ne-via-then-ne+else-ne-2 v ↦ link_to_outside s.marks c.args.links.now es k c.loop-link-test.true g small_a (rw c.from-after.ensures at (differs_false the_type (search rules) _ Outside (sym v.if-ne-2.ensures)))
-            | else-ne-via-else-ne v ↦ link_from_outside s.marks c.args.links.now es k c.loop-link-test.true g small_b (rw c.from-before.ensures at (differs_false the_type (search rules) _ Outside (sym v.if-ne.ensures)))
+            | else-ne-via-then-ne+else-ne-2 v ↦
+                link_to_outside s.marks c.args.links.now es k c.loop-link-test.true g small_a
+                (rw c.from-after.ensures at (differs_false the_type (search rules) _ Outside (sym v.if-ne-2.ensures)))
+            | else-ne-via-else-ne v ↦
+                link_from_outside s.marks c.args.links.now es k c.loop-link-test.true g small_b
+                (rw c.from-before.ensures at (differs_false the_type (search rules) _ Outside (sym v.if-ne.ensures)))
           ])
     ]
 
