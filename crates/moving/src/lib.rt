@@ -1,4 +1,4 @@
-// What the desks do from one decision moment to the next, over lent tables: the slots worked, and the runs noted.
+// What a desk does from one decision moment to the next: the slots worked on its piece, and its run noted.
 #![tactic(auto)]
 
 pub mod log;

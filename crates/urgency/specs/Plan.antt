@@ -1,4 +1,4 @@
--- The contract of the plan over lent tables: what the tables hold when it is called, and what it leaves in them. The
+-- The contract of the plan: what is known of the job when it is called, and what it leaves in spans and runs. The
 -- definitions of the rules say what is right.
 use Rattle.std.specs.Prelude.{ℕ, ◌+◌, ◌≤◌, ◌<◌, List, ◌≡◌, ℤ, pos, length, get_or}
 use Rattle.std.proofs.Math.Option.{none}
