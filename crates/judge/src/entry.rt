@@ -25,23 +25,29 @@ pub trait Entry: Copy {
     // Its value fault, with these pieces and links read before it.
     ghost fault: { Job → Self → ℕ };
 
+    /// What a record says.
     fn said(r: &[u8]) -> Self
         requires { length r.now ≡ 16 }
         ensures { result ≡ said r.now };
 
+    /// Its place in the file, behind so many pieces and links.
     fn judge_order(before: Counts) -> Result<(), Fault>
         ensures { Says before (fault_of result) (order_fault kind) };
 
+    /// Its values.
     fn judge_values(self, before: Counts) -> Result<(), Fault>
         ensures { Says before (fault_of result) (λ J. fault J self) };
 
+    /// The bytes of its record that must be zero.
     fn judge_zeros(r: &[u8]) -> Result<(), Fault>
         requires { length r.now ≡ 16 }
         ensures { fault_of result ≡ zero_fault kind r.now };
 
+    /// The record that holds it.
     fn into_record(self) -> Record
         ensures { item_of_record result ≡ item self };
 
+    // What ties these members to the page: the kind is known, and its values and contents are those of its record.
     ghost known: { kind_fault kind ≡ 0 };
 
     ghost valued: { (J : Job) (r : List ℕ) → value_fault kind J r ≡ fault J (said r) };
