@@ -35,7 +35,8 @@ module _ (pieces links buffer : List ℕ) where
   by_outcome : (o : Outcome) → write_outcome pieces links (length buffer) ≡ o
       → WritePromise pieces links buffer (write_answer_of o) (write_buffer_of o buffer)
   unfolding write_answer write_buffer
-  by_outcome o e = record { answered = ap write_answer_of (sym e); left_there = ap (λ x. write_buffer_of x buffer) (sym e) }
+  by_outcome o e =
+      record { answered = ap write_answer_of (sym e); left_there = ap (λ x. write_buffer_of x buffer) (sym e) }
 
   pub form_refused : (r : Refusal) → form_outcome pieces links ≡ refused (refusal_of r)
       → WritePromise pieces links buffer (write_answer_told (Err r)) buffer

@@ -1,6 +1,7 @@
 -- A form judged whole: its pieces, its links behind them, then a row cut short; and that what is left is sound, so that
 -- its values have room in their fields.
-use Rattle.std.specs.Prelude.{ℕ, ◌+◌, ◌/◌, ◌%◌, ◌<◌, ◌≤◌, true, false, eqb, List, [], ◌++◌, map, ◌≡◌, length, Result, Ok, Err}
+use Rattle.std.specs.Prelude.{ℕ, ◌+◌, ◌/◌, ◌%◌, ◌<◌, ◌≤◌, true, false, eqb, List, [], ◌++◌, map, ◌≡◌, length}
+use Rattle.std.specs.Prelude.{Result, Ok, Err}
 use Rattle.std.proofs.Common.{arith, refl, sym, ap, ◌∙◌}
 use mathlib.Core.List.{append-nil}
 use Rattle.rules.specs.Words.{below}
