@@ -5,7 +5,7 @@ use Rattle.std.proofs.Common.{ap, map, length, get_or, set, take, drop, eqb, Som
 use Rattle.std.specs.Prelude.{Option as Maybe}
 use Rattle.std.proofs.Math.Option.{Option, none, some, none-ne-some, some-injective}
 use Rattle.std.proofs.lemmas.List.{append_assoc, append-nil, map-append, length-append, length-set, get_or_at}
-use Rattle.std.proofs.lemmas.List.{take_more, take_more_set, take_all, drop_more, drop-set-lt, get_or-drop}
+use Rattle.std.proofs.lemmas.List.{take_more, take_more_set, drop_more, drop-set-lt, get_or-drop}
 use mathlib.Core.List.Memᴰ.{head as here}
 use mathlib.Core.List.Memᴰ.{tail as there}
 use mathlib.Core.List.{Memᴰ as Mem}
@@ -21,7 +21,7 @@ use Rattle.entries.specs.declared.list.Entry.{Entry as Struct}
 use Rattle.entries.specs.Lent.{meant, no_entry, entry_at}
 use Rattle.blocksteps.specs.declared.aside.Mark.{Mark}
 use Rattle.blocksteps.specs.declared.aside.Mark.TheVariants.{Outside, Member, Led}
-use Rattle.blocksteps.specs.Aside.{optional, Marks, is_among, led_mark, Aside, Without}
+use Rattle.blocksteps.specs.Aside.{optional, Marks, is_among, led_mark, Aside}
 
 one_of_map : {A B : Type 0} (p : B → Bool) (f : A → B) (xs : List A) → one_of p (map f xs) ≡ one_of (λ x. p (f x)) xs
 unfolding one_of

@@ -16,7 +16,6 @@ use Rattle.links.specs.declared.rings.Walk.{Walk}
 
 -- What a link leaves the piece before it, the moments as in the table.
 unfoldable pub left_by : Job → List ℤ → Link → ℤ
-unfolding takes_off
 left_by J moments l = get_or moments l.after (pos 0) -ℤ pos (takes_off J l)
 
 -- Link k of the job can be looked at: the moment of the piece after it is no far one.

@@ -6,9 +6,9 @@ use lib.IntN.{pos}
 use lib.ListN.{length, get_or}
 use mir.Syntax.{w32}
 use mir.ValLaws.{to_z_pos}
-use Rattle.rules.specs.Moments.{takes_off, delay}
+use Rattle.rules.specs.Moments.{takes_off}
 use Rattle.rules.specs.Tables.{job_of, no_link}
-use Rattle.laws.proofs.Delay.{takes_off_most}
+use Rattle.laws.proofs.Delay.{delay_is, takes_off_is, takes_off_most}
 use Rattle.laws.proofs.Sound.{LinkFits, link_fit, place_mem}
 use Rattle.moments.proofs.takes_off.Goals.{After-from, After-from-4}
 use Rattle.moments.proofs.takes_off.Goals as goal
@@ -34,8 +34,11 @@ bounds-pieces-from-2 c = rw c.from-2.ensures (fit (goal.at.bounds-pieces-from-2 
 -- The sum is what the definition says, and at most 1,440.
 total : (c : After-from-4) → c.from-4.result + c.delay-delayed.result
     ≡ takes_off (job_of c.args.pieces.now c.args.links.now) (get_or c.args.links.now c.args.k no_link)
-unfolding takes_off delay
-total c = rw (c.from-4.ensures, c.delay-delayed.ensures.0, c.from-3.ensures, c.from.ensures, c.from-2.ensures)
+total c =
+    let J = job_of c.args.pieces.now c.args.links.now in
+    let l = get_or c.args.links.now c.args.k no_link in
+    rw (takes_off_is J l, delay_is J l, c.from-4.ensures, c.delay-delayed.ensures.0, c.from-3.ensures, c.from.ensures,
+        c.from-2.ensures)
 
 small : (c : After-from-4) → c.from-4.result + c.delay-delayed.result ≤ 1440
 small c = rw (total c) (takes_off_most (job_of c.args.pieces.now c.args.links.now) c.requires.sound _
