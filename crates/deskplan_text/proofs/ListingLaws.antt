@@ -6,29 +6,30 @@ use mathlib.Core.Path.{◌≡◌, refl, sym, ap, ◌∙◌}
 use native.Mathlib.Omega.{arith}
 use borrow.Author.Tests.{lt-ltb, le-ltb}
 use lib.Dec.{ltb}
-use lib.IntN.{ℤ}
-use lib.ListN.{length, get_or, drop, length-append}
-use Rattle.rules.specs.Words.{below, joined, greatest, worst_of, sum}
+use lib.ListN.{length, drop, length-append}
+use Rattle.rules.specs.Words.{below, joined, sum}
 use Rattle.rules.specs.Job.{Job, piece_count, desk, refused, accepted}
-use Rattle.rules.specs.Answers.{Refusal}
+use Rattle.rules.specs.Answers.{PlanAnswer, Refusal}
+use Rattle.rules.specs.Told.{plan_answer_told}
+use Rattle.rules.specs.declared.PlanFigures.{PlanFigures}
+use Rattle.std.specs.Prelude.{Ok}
 use Rattle.rules.specs.Moments.{latest}
 use Rattle.rules.specs.Urgency.{start, finish}
 use Rattle.rules.specs.Runs.{Run, runs}
 use Rattle.rules.specs.Judgement.{file_outcome}
 use Rattle.rules.specs.Listing.{piece_line, run_line, total_line, refused_line, run_lines, plan_listing, listing_of}
 use Rattle.rules.specs.Listing.{listing}
-use Rattle.rules.specs.Plan.{run_records, at_front, plan_numbers, lateness}
+use Rattle.rules.specs.Plan.{at_front, plan_numbers, lateness}
 use Rattle.laws.proofs.Words.{by_test, map_same, mem_below, when_true, when_false}
 use Rattle.laws.proofs.Joined.{joined_twice, length-joined, map_twice}
 use Rattle.steps.specs.Log.{logged_runs}
 use Rattle.demands.proofs.Answers.{first_bytes_listing}
 use Rattle.demands.proofs.Runs.{run_records_lem}
-use Rattle.output.specs.Late.{lateness_in}
 use Rattle.rules.specs.Tables.{desks_of, starts_of, finishes_of, run_pieces, run_froms, run_untils}
 use Rattle.laws.proofs.Columns.{get_or-desks}
 use Rattle.finished.specs.Finished.{Finished}
 use Rattle.finished.specs.declared.Plan.{Plan}
-use Rattle.finished.proofs.FinishedLaws.{few_pieces, count_here, end_here, worst_here}
+use Rattle.finished.proofs.FinishedLaws.{few_pieces, count_here}
 use Rattle.lines.specs.Lines.{piece_text, run_text, total_text, refused_text, piece_line_in, piece_lines_in}
 use Rattle.lines.specs.Lines.{desk_lines_in, run_lines_in}
 use Rattle.lines.proofs.LineLaws.{run_most, total_most}
@@ -113,12 +114,14 @@ piece_line_is : (J : Job) (i : ℕ) → piece_line J i ≡ piece_text i (desk J 
 unfolding piece_line lateness piece_text
 piece_line_is J i = refl
 
-total_line_is : (J : Job)
-    → total_text (piece_count J) (length (run_records J)) (greatest 0 (map (finish J) (below (piece_count J))))
-    (worst_of (map (lateness J) (below (piece_count J))))
-    ≡ total_line (plan_numbers J)
-unfolding total_text total_line plan_numbers
-total_line_is J = refl
+total_line_is : (a : PlanAnswer) → total_line a ≡ total_text a.pieces a.runs a.end a.worst
+unfolding total_text total_line
+total_line_is a = refl
+
+-- The total line of the figures that the page's answer has.
+total_here : (J : Job) (f : PlanFigures) → plan_answer_told (Ok f) ≡ plan_numbers J
+    → total_text f.pieces f.runs f.end f.worst ≡ total_line (plan_numbers J)
+total_here J f told = sym (total_line_is (plan_answer_told (Ok f))) ∙ ap total_line told
 
 module _ {J : Job} {plan : Plan} (F : Finished J plan) where
   abbrev desks : List ℕ
@@ -162,21 +165,12 @@ module _ {J : Job} {plan : Plan} (F : Finished J plan) where
       ∙ ap joined (map_same (λ d. joined (run_lines J d)) (desk_lines_in count desks pieces froms untils) (below 32)
       (λ d k. ap (λ rs. joined (map (run_line d) rs)) (sym (F.runs_are d (mem_below 32 d k)))))
 
-  -- The total, by the figures that the tables give.
-  total_here : (e : ℕ) (w : ℤ) → e ≡ greatest 0 (map (λ i. get_or finishes i 0) (below (piece_count J)))
-      → w ≡ worst_of (map (lateness_in finishes plan.latests) (below (piece_count J)))
-      → total_text (piece_count J) count e w ≡ total_line (plan_numbers J)
-  total_here e w p q =
-      (λ k. total_text (piece_count J) (sym (count_here F) k) ((p ∙ end_here F) k) ((q ∙ worst_here F) k))
-      ∙ total_line_is J
-
   -- The pages are the listing.
-  pub pages_are : (e : ℕ) (w : ℤ) → e ≡ greatest 0 (map (λ i. get_or finishes i 0) (below (piece_count J)))
-      → w ≡ worst_of (map (lateness_in finishes plan.latests) (below (piece_count J)))
+  pub pages_are : (f : PlanFigures) → plan_answer_told (Ok f) ≡ plan_numbers J
       → piece_lines_in (piece_count J) desks starts finishes plan.latests ++ run_lines_in 32 count desks pieces froms untils
-      ++ total_text (piece_count J) count e w ≡ plan_listing J
+      ++ total_text f.pieces f.runs f.end f.worst ≡ plan_listing J
   unfolding plan_listing
-  pages_are e w p q = λ k. sym pieces_here k ++ sym runs_here k ++ total_here e w p q k
+  pages_are f told = λ k. sym pieces_here k ++ sym runs_here k ++ total_here J f told k
 
   -- At most 141 bytes for each run of the log.
   pub runs_most : length (run_lines_in 32 count desks pieces froms untils) ≤ 141 * count
@@ -203,21 +197,21 @@ module _ {J : Job} {plan : Plan} (F : Finished J plan) where
 
   -- Every listing has room.
   pub listing_most : length (plan_listing J) ≤ enough
+  unfolding plan_listing
   listing_most =
-      let e = greatest 0 (map (λ i. get_or finishes i 0) (below (piece_count J))) in
-      let w = worst_of (map (lateness_in finishes plan.latests) (below (piece_count J))) in
       let pages = piece_lines_in (piece_count J) desks starts finishes plan.latests in
       let more = run_lines_in 32 count desks pieces froms untils in
-      rw (← (pages_are e w refl refl))
+      let n = plan_numbers J in
+      rw (pieces_here, runs_here, total_line_is n)
       (omega (
         arith,
         few_pieces F,
         F.few,
         runs_most,
         pieces_most desks starts finishes plan.latests (piece_count J),
-        total_most (piece_count J) count e w,
+        total_most n.pieces n.runs n.end n.worst,
         length-append pages more,
-        length-append (pages ++ more) (total_text (piece_count J) count e w),
+        length-append (pages ++ more) (total_text n.pieces n.runs n.end n.worst),
       ))
 
 -- The listing of an accepted file.

@@ -13,11 +13,10 @@ ghost use Rattle.deskplan_text.specs.Promise.{ListingPromise, enough};
 use finished::Plan;
 use lines::{put_refused_line, put_total_line};
 use listing::pages::{put_piece_lines, put_run_lines};
-use output::figures::{largest_finish, worst_lateness};
 use planning::file::plan_file;
 use reader::Job;
 use records::lent::Lent;
-use rules::{Piece, PlanFigures};
+use rules::Piece;
 
 /// The room that every listing has: 256 piece lines of 211 bytes, 512 run lines and the total of 141 bytes each, at most.
 pub const ENOUGH: usize = 131072;
@@ -31,13 +30,7 @@ fn put_pages(pieces: &[Piece], plan: &Plan, text: &mut Lent)
 {
     put_piece_lines(pieces, &plan.spans, &plan.latests, text);
     put_run_lines(pieces, &plan.runs, text);
-    let figures = PlanFigures {
-        pieces: pieces.len() as u32,
-        runs: plan.runs.len() as u32,
-        end: largest_finish(pieces.len(), &plan.spans),
-        worst: worst_lateness(pieces.len(), &plan.spans, &plan.latests),
-    };
-    put_total_line(text, figures);
+    put_total_line(text, plan.figures(pieces));
 }
 
 // The listing of a job file, put into a text that has room for it.

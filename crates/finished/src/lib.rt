@@ -2,11 +2,16 @@
 // what follows for records and figures.
 #![tactic(auto)]
 
-ghost use Rattle.std.specs.Prelude.{◌≡◌, [], pos, replicate};
-ghost use Rattle.rules.specs.Tables.{no_span};
+ghost use Rattle.std.specs.Prelude.{◌≡◌, [], List, Ok, pos, replicate};
+ghost use Rattle.rules.specs.Plan.{plan_numbers};
+ghost use Rattle.rules.specs.Tables.{job_of, no_span};
+ghost use Rattle.rules.specs.Told.{plan_answer_told};
+ghost use Rattle.rules.specs.declared.Link.{Link as AnyLink};
+ghost use Rattle.finished.specs.Finished.{Finished};
 
 use arrayvec::ArrayVec;
-use rules::{Run, Span};
+use output::figures::{largest_finish, worst_lateness};
+use rules::{Piece, PlanFigures, Run, Span};
 
 /// A plan in fixed memory, with room for as many pieces and runs as a job may have.
 #[derive(Debug, Drop)]
@@ -30,6 +35,19 @@ impl Plan {
             spans: [Span::default(); 256],
             latests: [0; 256],
             runs: ArrayVec::new(),
+        }
+    }
+    /// The figures of a finished plan of these pieces.
+    pub fn figures(&self, pieces: &[Piece]) -> PlanFigures
+        requires { (links : List AnyLink) × Finished (job_of pieces.now links) self.now }
+        ensures { (links : List AnyLink) → Finished (job_of pieces.now links) self.now
+            → plan_answer_told (Ok result) ≡ plan_numbers (job_of pieces.now links) }
+    {
+        PlanFigures {
+            pieces: pieces.len() as u32,
+            runs: self.runs.len() as u32,
+            end: largest_finish(pieces.len(), &self.spans),
+            worst: worst_lateness(pieces.len(), &self.spans, &self.latests),
         }
     }
 }

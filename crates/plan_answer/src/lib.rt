@@ -8,7 +8,6 @@ ghost use Rattle.demands.specs.Promises.{PlanPromise};
 ghost use Rattle.finished.specs.Finished.{PlannedFile};
 
 use finished::Plan;
-use output::figures::{largest_finish, worst_lateness};
 use output::results::put_results;
 use output::runs::put_runs;
 use records::lent::Lent;
@@ -33,10 +32,5 @@ pub fn answer_plan(pieces: &[Piece], plan: &Plan, buffer: &mut [u8]) -> Result<P
     };
     put_results(pieces, &plan.spans, &plan.latests, &mut records);
     put_runs(pieces, &plan.runs, &mut records);
-    Ok(PlanFigures {
-        pieces: pieces.len() as u32,
-        runs: plan.runs.len() as u32,
-        end: largest_finish(pieces.len(), &plan.spans),
-        worst: worst_lateness(pieces.len(), &plan.spans, &plan.latests),
-    })
+    Ok(plan.figures(pieces))
 }

@@ -1,6 +1,5 @@
 -- `put_pages` meets its contract: piece lines, run lines and the total, each right behind the one before.
-use Rattle.std.proofs.Common.{◌∙◌, arith, w32, length, length-append}
-use mir.ValLaws.{to_z-of_z}
+use Rattle.std.proofs.Common.{arith, length, length-append}
 use Rattle.rules.specs.Tables.{desks_of, starts_of, finishes_of, run_pieces, run_froms, run_untils}
 use Rattle.records.proofs.PutLaws.{puts_on, puts_as, room_left}
 use Rattle.lines.specs.Lines.{piece_lines_in, run_lines_in}
@@ -19,9 +18,6 @@ put_run_lines-requires-clause-room c =
     a.plan.now.latests (length a.pieces.now) in
     rw c.deref.ensures.0
     (room_left _ c.put_piece_lines.ensures (omega (arith, most, pages_room c.requires.finished.1, c.requires.room)))
-
-pub worst_lateness-requires-clause-bounded : goal.worst_lateness-requires-clause-bounded
-worst_lateness-requires-clause-bounded c = bounded_here c.requires.finished.1
 
 pub put_total_line-requires : goal.put_total_line-requires
 put_total_line-requires c =
@@ -43,8 +39,6 @@ put_total_line-requires c =
 
 pub returns : goal.returns
 returns c links F =
-    let late = c.worst_lateness in
-    let worst = to_z-of_z w32 late.result (record { sfits = late.type_inv }) ∙ late.ensures in
     let whole = puts_on (puts_on c.put_piece_lines.ensures (rw c.deref.ensures.0 at c.put_run_lines.ensures))
-    (rw c.len.ensures.value at c.put_total_line.ensures) in
-    puts_as whole (pages_are F _ _ c.largest_finish.ensures worst)
+    c.put_total_line.ensures in
+    puts_as whole (pages_are F c.figures.result (c.figures.ensures links F))
