@@ -16,8 +16,6 @@ pub fn judge_file(file: &[u8], job: &mut Job, walk: &mut Walk) -> Result<(), Ref
     ensures outcome { file_outcome file.now ≡ outcome_told result job.new }
     ensures walkable { OnOk result (ToTime job.new.pieces.items job.new.links.items walk.new) }
 {
-    job.pieces.clear();
-    job.links.clear();
     read_job(file, job)?;
     ring_check(job.pieces.len(), &job.links, walk).map_err(|piece| Refusal {
         fault: Fault::Ring,

@@ -51,14 +51,15 @@ impl Job {
     }
 }
 
-/// A job file into an empty job, or the first refusal met; the job then holds what was read before it.
+/// A job file into a job, whatever that held before; or the first refusal met, and the job then holds what was read
+/// before it.
 pub fn read_job(file: &[u8], job: &mut Job) -> Result<(), Refusal>
-    requires no_pieces { job.old.pieces.items ≡ [] }
-    requires no_links { job.old.links.items ≡ [] }
     ensures outcome { read_job file.now ≡ outcome_told result job.new }
     ensures few_pieces { length job.new.pieces.items ≤ 256 }
     ensures few_links { length job.new.links.items ≤ 1024 }
 {
+    job.pieces.clear();
+    job.links.clear();
     while let Some(record) = item(file, job.records(), job.counts())? {
         match record {
             Record::Piece(piece) => job.pieces.push(piece),

@@ -7,7 +7,7 @@ use Rattle.reader.proofs.Taken.{taken_start, told, piece_room, piece_on, link_ro
 use Rattle.reader.proofs.read_job.Goals as goal
 
 pub loop-record-init : goal.loop-record-init
-loop-record-init c = rw (c.requires.no_pieces, c.requires.no_links) (taken_start c.args.file.now)
+loop-record-init c = rw (c.clear.ensures, c.clear-2.ensures) (taken_start c.args.file.now)
 
 -- A refusal.
 pub returns-in_err-record-clause-outcome : goal.returns-in_err-record-clause-outcome
