@@ -97,6 +97,7 @@ pub fn set_aside(links: &[Link], entries: &[Entry]) -> Option<Entry>
 pub fn without(entries: &mut [Entry], number: u16) -> usize
     ensures { Without entries.old number entries.new result }
 {
+    // In place, as the entries are a part of the set's: a slice has no `retain`.
     let mut kept = 0;
     for k in 0..entries.len() {
         let entry = take_entry(entries, k);

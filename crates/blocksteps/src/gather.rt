@@ -30,6 +30,7 @@ pub fn gather_block(entries: &[Entry]) -> Extent
     let from = entries[0].ready;
     let mut work = u32::from(entries[0].duration);
     let mut end = open_end(from, work);
+    // The place is the answer: how many entries the block has.
     for k in 1..entries.len() {
         if end <= entries[k].ready {
             return Extent { count: k, end };

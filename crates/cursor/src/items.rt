@@ -27,6 +27,7 @@ pub fn record_item(r: &[u8], k: u64, before: Counts) -> Result<Record, Refusal>
     requires { length r.now ≡ 16 }
     ensures { Says before (item_told result) (λ J. judged J k r.now) }
 {
+    // On the byte and its ranges, as the rules page names it: `Kind` has kinds that no job file has.
     match r[0] {
         1 => entry_item::<Piece>(r, k, before),
         2 => entry_item::<Link>(r, k, before),

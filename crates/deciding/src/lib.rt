@@ -17,7 +17,8 @@ use steps::State;
 // No later moment, while the least is looked for: a minimum of numbers needs no branch.
 const NEVER: u32 = u32::MAX;
 
-// A key that no piece has. Not an Option: the loop over the open pieces must not branch on who asks for which desk.
+// A key that no piece has. Not an Option: a branch on who asks for which desk was measured in the loop over the open
+// pieces, and cost a third of the time where many are open.
 const NO_KEY: u64 = u64::MAX;
 
 /// Who every desk works on.

@@ -52,6 +52,7 @@ fn put_listing(file: &[u8], text: &mut Lent)
 pub fn write_listing(file: &[u8], text: &mut [u8]) -> usize
     ensures { ListingPromise file.now text.old result text.new }
 {
+    // 0 and not None: the call for C answers so.
     if text.len() < ENOUGH {
         return 0;
     }

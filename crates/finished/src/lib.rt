@@ -14,6 +14,8 @@ use output::figures::{largest_finish, worst_lateness};
 use rules::{Piece, PlanFigures, Run, Span};
 
 /// A plan in fixed memory, with room for as many pieces and runs as a job may have.
+// Spans and latest moments are two tables: the latest moments are made before there is a plan, and the block sheet makes
+// its entries of them alone.
 #[derive(Debug, Drop)]
 pub struct Plan {
     /// For each piece, when it is worked on.

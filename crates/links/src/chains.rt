@@ -6,8 +6,8 @@ ghost use Rattle.links.specs.Chains.{Chained, ToChain, code_of};
 use rules::Link;
 
 /// The links of a job, chained: a walk goes from `first` along `next`, from the last link of a piece back to its first.
-// Both tables hold one more than a place, and 0 at the end of a chain: half the size of `Option<u16>`, and cleared by
-// zeroes.
+// Both tables are numbers, as the rules page has the tables of links: one more than a place, and 0 at the end of a chain,
+// half the size of `Option<u16>` and cleared by zeroes. What walks a chain meets an `Option` alone.
 #[derive(Drop)]
 pub struct Chains {
     /// For each piece, the last link from it.
@@ -40,7 +40,7 @@ impl Chains {
         }
     }
 
-    /// The place of the last link from piece i.
+    /// The place of the last link from piece i. A walk is `while let Some(k)`, whose measure is what is left of the chain.
     pub fn first(&self, i: usize) -> Option<usize>
         requires { i < 256 }
         ensures { code_of result ≡ get_or self.now.last i 0 }

@@ -1,4 +1,4 @@
--- The runs of the log chained desk by desk, as `chain_runs` lays them: from each run to the next of the same desk.
+-- The runs of the log chained desk by desk, as `RunChains::new` lays them: from each run to the next of the same desk.
 use Prim.Native.Nat.{ℕ, zero, suc, ◌+◌, ◌-◌, ◌≤◌, ◌<◌}
 use Rattle.std.specs.Prelude.{Option, None, Some, List, ◌≡◌, eqb, length, get_or}
 use Rattle.rules.specs.Words.{when}

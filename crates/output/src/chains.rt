@@ -8,7 +8,8 @@ ghost use Rattle.output.specs.Written.{LogFits};
 use rules::{Piece, Run};
 
 /// For each desk one more than the place of its first run, and for each run one more than the place of the next run of
-/// its desk; 0 ends a chain. As numbers and not as options, so that clearing the tables is zeroing half the bytes.
+/// its desk; 0 ends a chain. As numbers and not as options, so that clearing the tables is zeroing half the bytes; what
+/// walks a chain meets an `Option` alone.
 #[derive(Clone, Copy)]
 pub struct RunChains {
     pub first: [u16; 256],

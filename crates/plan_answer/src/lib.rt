@@ -20,6 +20,7 @@ pub fn answer_plan(pieces: &[Piece], plan: &Plan, buffer: &mut [u8]) -> Result<P
     ensures { (file : List ℕ) → PlannedFile file pieces.now plan.now
         → PlanPromise file buffer.old (plan_answer_told result) buffer.new }
 {
+    // Judged here for the plan, and in sheet_answer for the sheet, whose desk is judged in between.
     if buffer.len() < 48 * pieces.len() {
         return Err(Refusal {
             fault: Fault::BufferTooShort,

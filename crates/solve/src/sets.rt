@@ -30,6 +30,7 @@ pub fn cut_set(
 {
     let mut t = from;
     let mut at = 0;
+    // By blocks, which differ in length, and each is lent on to be written: no iterator hands such parts out.
     while at < entries.len() {
         let start = entries[at].ready;
         let block = gather_block(&entries[at..]);
