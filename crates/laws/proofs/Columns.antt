@@ -6,7 +6,9 @@ use Rattle.std.proofs.lemmas.List.{map-id}
 use Rattle.std.proofs.Math.ListN.{get_or-map}
 use Rattle.rules.specs.Words.{row, below}
 use Rattle.rules.specs.Job.{no_piece}
-use Rattle.rules.specs.Tables.{desks_of, durations_of, releases_of, dues_of, befores_of, afters_of, handovers_of, starts_of, finishes_of, run_pieces, run_froms, run_untils, no_link, no_span, no_run, piece_in, link_in, pieces_in, links_in, job_in, job_of}
+use Rattle.rules.specs.Tables.{desks_of, durations_of, releases_of, dues_of, befores_of, afters_of, handovers_of}
+use Rattle.rules.specs.Tables.{starts_of, finishes_of, run_pieces, run_froms, run_untils, no_link, no_span, no_run}
+use Rattle.rules.specs.Tables.{piece_in, link_in, pieces_in, links_in, job_in, job_of}
 use Rattle.rules.specs.declared.Piece.{Piece}
 use Rattle.rules.specs.declared.Link.{Link}
 use Rattle.rules.specs.declared.Span.{Span}

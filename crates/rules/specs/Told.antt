@@ -3,7 +3,9 @@
 use Rattle.std.specs.Prelude.{ℕ, pos, Option, Some, None, Result, Ok, Err}
 use Rattle.rules.specs.Answers.{Refusal, Item, Work, Tie, Stop, Done, PlanAnswer, BlockAnswer, WriteAnswer}
 use Rattle.rules.specs.declared.fault.Fault.{Fault}
-use Rattle.rules.specs.declared.fault.Fault.TheVariants.{BytesLeft, UnknownKind, PieceAfterLink, TooMany, Desk, Duration, ReleaseOrDue, NotZero, NoSuchPiece, Handover, Ring, BufferTooShort, AskedDesk, NoRoomForFile}
+use Rattle.rules.specs.declared.fault.Fault.TheVariants.{BytesLeft, UnknownKind, PieceAfterLink, TooMany, Desk}
+use Rattle.rules.specs.declared.fault.Fault.TheVariants.{Duration, ReleaseOrDue, NotZero, NoSuchPiece, Handover, Ring}
+use Rattle.rules.specs.declared.fault.Fault.TheVariants.{BufferTooShort, AskedDesk, NoRoomForFile}
 use Rattle.rules.specs.declared.fault.Refusal.{Refusal as Refused}
 use Rattle.rules.specs.declared.Record.{Record}
 use Rattle.rules.specs.declared.Record.TheVariants.{Piece, Link}

@@ -14,7 +14,9 @@ use Rattle.rules.specs.Job.{Job, piece_count, refused, accepted}
 use Rattle.rules.specs.Answers.{BlockAnswer}
 use Rattle.rules.specs.Told.{number_of, refusal_of, block_answer_told}
 use Rattle.rules.specs.declared.fault.Fault.{Fault}
-use Rattle.rules.specs.declared.fault.Fault.TheVariants.{BytesLeft, UnknownKind, PieceAfterLink, TooMany, Desk, Duration, ReleaseOrDue, NotZero, NoSuchPiece, Handover, Ring, BufferTooShort, AskedDesk, NoRoomForFile}
+use Rattle.rules.specs.declared.fault.Fault.TheVariants.{BytesLeft, UnknownKind, PieceAfterLink, TooMany, Desk}
+use Rattle.rules.specs.declared.fault.Fault.TheVariants.{Duration, ReleaseOrDue, NotZero, NoSuchPiece, Handover, Ring}
+use Rattle.rules.specs.declared.fault.Fault.TheVariants.{BufferTooShort, AskedDesk, NoRoomForFile}
 use Rattle.rules.specs.declared.fault.Refusal.{Refusal as Refused}
 use Rattle.rules.specs.declared.Run.{Run}
 use Rattle.rules.specs.Judgement.{refuse, then_judge, unless_no_desk, unless_short, file_outcome, block_outcome}

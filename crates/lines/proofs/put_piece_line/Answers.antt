@@ -25,4 +25,5 @@ returns c =
       signed_decimal_is (lateness_of c.args.span.finish c.args.latest)
           (omega (arith, rw counted at c.put_field-6.ensures.fits)),
     ) at c.put_field-6.ensures.put in
-    then_newline (then_field (then_field (then_field (then_field (then_field (then_field (no_field c.args.text.now) number) desk) start) finish) latest) late) c.put.ensures
+    let three = then_field (then_field (then_field (no_field c.args.text.now) number) desk) start in
+    then_newline (then_field (then_field (then_field three finish) latest) late) c.put.ensures
