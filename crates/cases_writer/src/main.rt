@@ -66,21 +66,12 @@ fn try_link(rt: &impl Print, name: &str, value: u32, link: [u32; 3]) -> io::Resu
     try_form(rt, name, value as usize, &piece, &link, &mut buffer)
 }
 
-// So many rows of a piece of one slot on desk 0.
-fn fill_pieces(rows: &mut [u32], n: usize)
-    requires { 4 * n ≤ length rows.old }
-{
-    for k in 0..n {
-        rows[4 * k + 1] = 1;
-    }
-}
-
-// So many numbers of pieces and of links, each link from piece 0 to itself, in a buffer of so many bytes.
+// So many numbers of pieces of one slot on desk 0, and of links, each from piece 0 to itself, in a buffer of so many
+// bytes.
 fn try_numbers(rt: &impl Print, pieces: usize, links: usize, room: usize) -> io::Result<()>
     requires { (pieces ≤ 1028) × (links ≤ 3075) × (room ≤ 20480) }
 {
-    let mut rows = [0u32; 1028];
-    fill_pieces(&mut rows, 257);
+    let rows = [[0u32, 1, 0, 0]; 257];
     let tied = [0u32; 3075];
     let mut buffer = [0u8; 20480];
     print!(rt; "numbers {pieces}")?;
@@ -88,7 +79,7 @@ fn try_numbers(rt: &impl Print, pieces: usize, links: usize, room: usize) -> io:
         rt,
         " and ",
         links,
-        &rows[..pieces],
+        &rows.as_flattened()[..pieces],
         &tied[..links],
         &mut buffer[..room],
     )
