@@ -1,6 +1,6 @@
 // What the sheet says besides the runs: a row for each block of the first cutting, and the worst lateness over the
 // runs.
-ghost use Rattle.std.specs.Prelude.{◌≡◌, ◌≤◌, [], map, length};
+ghost use Rattle.std.specs.Prelude.{◌≡◌, ◌≤◌, map, length};
 ghost use Rattle.rules.specs.Words.{worst_of};
 ghost use Rattle.rules.specs.Blocks.{cut_in_order};
 ghost use Rattle.entries.specs.Lent.{meant};
@@ -17,11 +17,11 @@ use rules::Run;
 
 /// Puts a row for each block of the set into the list, by time.
 pub fn first_blocks(entries: &[Entry], rows: &mut ArrayVec<BlockRow, 256>)
-    requires listed { Listed entries.now }
-    requires empty { rows.old.items ≡ [] }
+    requires { Listed entries.now }
     ensures few { length rows.new.items ≤ length entries.now }
     ensures blocks { rows.new.items ≡ map row_of (cut_in_order desk_end (map meant entries.now)) }
 {
+    rows.clear();
     let mut rest = entries;
     while let Some(first) = rest.first() {
         let block = gather_block(rest);

@@ -1,6 +1,6 @@
 // The block sheet of one desk out of a finished plan: the raised ready moments are made of it first, and the links of the
 // desk are picked out. Everything else comes out of the block rule alone.
-ghost use Rattle.std.specs.Prelude.{◌≡◌, [], length};
+ghost use Rattle.std.specs.Prelude.{length};
 ghost use Rattle.rules.specs.Tables.{job_of, befores_of, afters_of, finishes_of};
 ghost use Rattle.links.specs.Rings.{Walkable};
 ghost use Rattle.method.specs.Sheet.{SheetOf};
@@ -31,10 +31,9 @@ pub fn planned_sheet(
     requires laid { Laid pieces.now links.now (finishes_of spans.now) latests.now }
     requires walkable { Walkable (length pieces.now) (length links.now) (befores_of links.now) (afters_of links.now)
         walk.now.chains.last walk.now.chains.prior walk.now.order }
-    requires no_rows { rows.old.items ≡ [] }
-    requires no_runs { runs.old.items ≡ [] }
     ensures { SheetOf (job_of pieces.now links.now) desk rows.new.items runs.new.items result }
 {
+    runs.clear();
     let mut ready = [0u32; 256];
     raised_moments(pieces, links, walk, spans, &mut ready);
     let mut entries = ArrayVec::<Entry, 256>::new();

@@ -6,7 +6,7 @@ use Rattle.blockrows.proofs.Recording.{recording_none, recording_more, recording
 use Rattle.blockrows.proofs.table.first_blocks.Goals as goal
 
 pub loop-first-init : goal.loop-first-init
-loop-first-init c = recording_none c.args.entries.now c.args.rows.now.items c.requires.listed c.requires.empty
+loop-first-init c = recording_none c.args.entries.now c.clear.new.self.items c.requires c.clear.ensures
 
 pub loop-first-preserved : goal.loop-first-preserved
 loop-first-preserved c =

@@ -6,8 +6,8 @@ use Rattle.blocks.proofs.DeskSheet.{links_between, count, sheet_listed, sheet_ro
 use Rattle.blocks.proofs.DeskSheet.{sheet_worst}
 use Rattle.blocks.proofs.planned.planned_sheet.Goals as goal
 
-pub first_blocks-requires-clause-listed : goal.first_blocks-requires-clause-listed
-first_blocks-requires-clause-listed c =
+pub first_blocks-requires : goal.first_blocks-requires
+first_blocks-requires c =
     let a = c.args in
     rw c.deref.ensures.0
     (sheet_listed a.pieces.now a.links.now _ _ c.requires.laid _ c.raised_moments.ensures a.desk _ c.desk_order.ensures)
@@ -25,13 +25,13 @@ cut_set-requires c =
     rw (c.deref-2.ensures.0, c.deref_mut.ensures.value) (record {
       links = c.own_links.ensures.links;
       listed = h;
-      room = omega (arith, h.few, ap length c.requires.no_runs);
+      room = omega (arith, h.few, ap length c.clear.ensures);
     })
 
 pub worst_lateness-requires : goal.worst_lateness-requires
 worst_lateness-requires c =
     let a = c.args in
-    let cuts = rw (c.deref-2.ensures.0, c.deref_mut.ensures.value, c.requires.no_runs) at c.cut_set.ensures.cut_onto in
+    let cuts = rw (c.deref-2.ensures.0, c.deref_mut.ensures.value, c.clear.ensures) at c.cut_set.ensures.cut_onto in
     rw c.deref-3.ensures.0
     (sheet_dated a.pieces.now a.links.now _ _ c.requires.laid _ c.raised_moments.ensures a.desk _ c.desk_order.ensures
     _ c.own_links.ensures _ cuts)
@@ -42,7 +42,7 @@ returns c =
     let es = c.desk_order.new.entries.items in
     let pieces = count a.pieces.now a.links.now _ _ c.requires.laid _ c.raised_moments.ensures a.desk _
     c.desk_order.ensures in
-    let cuts = rw (c.deref-2.ensures.0, c.deref_mut.ensures.value, c.requires.no_runs) at c.cut_set.ensures.cut_onto in
+    let cuts = rw (c.deref-2.ensures.0, c.deref_mut.ensures.value, c.clear.ensures) at c.cut_set.ensures.cut_onto in
     let worst = c.worst_lateness in
     record {
       blocks_are =
@@ -61,7 +61,7 @@ returns c =
             arith,
             c.cut_set.ensures.few,
             ap length c.deref_mut.ensures.value,
-            ap length c.requires.no_runs,
+            ap length c.clear.ensures,
             pieces,
           );
     }
