@@ -38,7 +38,6 @@ fn sheet_accepted(
     }
     let mut plan = Plan::new();
     finish_plan(pieces, links, walk, &mut plan);
-    plan.runs.clear();
     let mut rows = ArrayVec::new();
     let worst = planned_sheet(
         pieces,
