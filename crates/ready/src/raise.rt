@@ -81,9 +81,9 @@ pub fn raised_moments(
     ensures { HoldsRaised (job_of pieces.now links.now) table.new }
 {
     take_releases(pieces, table);
-    for p in 0..pieces.len() {
+    for piece in &walk.order[..pieces.len()] {
         raise_from(
-            usize::from(walk.order[p]),
+            usize::from(*piece),
             pieces,
             links,
             &walk.chains,

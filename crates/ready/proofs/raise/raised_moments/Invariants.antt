@@ -2,5 +2,5 @@
 use Rattle.ready.proofs.Raising.{Settled}
 use Rattle.ready.proofs.raise.raised_moments.Given as goal
 
-abbrev pub invariant-loop-p : goal.invariant-loop-p
-invariant-loop-p l = Settled l.pieces l.links l.walk.order l.table l.p
+abbrev pub invariant-loop-piece : goal.invariant-loop-piece
+invariant-loop-piece l = Settled l.pieces l.links l.walk.order l.table l.piece-index
