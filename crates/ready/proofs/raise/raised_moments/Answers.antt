@@ -17,18 +17,21 @@ loop-piece-init c =
 long : (order : List ℕ) (n : ℕ) → length order ≡ 256 → n ≤ 256 → length (take n order) ≡ n
 long order n sized few = length-take-le n order (omega (arith, sized, few))
 
+in_front : (order : List ℕ) (n k : ℕ) → length order ≡ 256 → n ≤ 256 → k < length (take n order) → k < n
+in_front order n k sized few h = omega (arith, long order n sized few)
+
 pub raise_from-requires : goal.raise_from-requires
 raise_from-requires c =
     let p = c.requires in
     let n = length c.args.pieces.now in
     let k = c.loop-piece.piece-index in
-    let on : k < n =
-    omega (arith, c.loop-piece-test.true, long c.args.walk.now.order n p.walkable.ordered.sized p.planned.sound.few_pieces) in
+    let order = c.args.walk.now.order in
+    let on = in_front order n k p.walkable.ordered.sized p.planned.sound.few_pieces c.loop-piece-test.true in
     record {
       planned = p.planned;
       chained = p.walkable.chained;
       below = c.loop-piece.invariant.low;
-      one = rw (c.from.ensures, get_or-take n c.args.walk.now.order k 0 on) (p.walkable.ordered.inside k on);
+      one = rw (c.from.ensures, get_or-take n order k 0 on) (p.walkable.ordered.inside k on);
     }
 
 pub loop-piece-preserved : goal.loop-piece-preserved
@@ -36,10 +39,10 @@ loop-piece-preserved c =
     let p = c.requires in
     let n = length c.args.pieces.now in
     let k = c.loop-piece.piece-index in
-    let on : k < n =
-    omega (arith, c.loop-piece-test.true, long c.args.walk.now.order n p.walkable.ordered.sized p.planned.sound.few_pieces) in
+    let order = c.args.walk.now.order in
+    let on = in_front order n k p.walkable.ordered.sized p.planned.sound.few_pieces c.loop-piece-test.true in
     settled_more p.planned.sound p.planned.free p.walkable.ordered _ on c.loop-piece.invariant
-    (rw (c.from.ensures, get_or-take n c.args.walk.now.order k 0 on) at c.raise_from.ensures)
+    (rw (c.from.ensures, get_or-take n order k 0 on) at c.raise_from.ensures)
 
 pub returns : goal.returns
 returns c =
