@@ -9,8 +9,8 @@ const RAISED_BY: i32 = 524288;
 // A piece number takes eight bits.
 const NUMBERS: u64 = 256;
 
-/// The key of piece i.
-pub fn key_of(latest: i32, i: usize) -> u64
+// The key of piece i.
+pub(crate) fn key_of(latest: i32, i: usize) -> u64
     requires { (nat_abs latest ≤ 500000) × (i < 256) }
     ensures { result ≡ key_of latest i }
 {
