@@ -4,7 +4,7 @@
 
 pub mod keys;
 
-ghost use Rattle.std.specs.Prelude.{◌≡◌, ◌≤◌, ◌<◌, ℕ, [], pos, nat_abs, length, get_or};
+ghost use Rattle.std.specs.Prelude.{◌≡◌, ◌≤◌, ◌<◌, ℕ, pos, nat_abs, length, get_or};
 ghost use Rattle.rules.specs.Tables.{job_of, desks_of, durations_of, releases_of, befores_of};
 ghost use Rattle.rules.specs.Tables.{starts_of, finishes_of, run_pieces, run_froms, run_untils};
 ghost use Rattle.links.specs.Chains.{Chained};
@@ -45,7 +45,7 @@ fn begin(pieces: &[Piece], latests: &[i32; 256], states: &mut [State; 256], span
 }
 
 /// Plans the pieces, whose latest moments are known and whose links are chained. The spans of the pieces are filled, and
-/// the runs of all desks are put in the list in the order in which they begin.
+/// the runs of all desks are put in the list, in place of what it held, in the order in which they begin.
 pub fn plan(
     pieces: &[Piece],
     links: &[Link],
@@ -56,11 +56,11 @@ pub fn plan(
 )
     requires given { Given (job_of pieces.now links.now) (length pieces.now) latests.now }
     requires chained { Chained (befores_of links.now) (length links.now) chains.now.last chains.now.prior }
-    requires empty { runs.old.items ≡ [] }
     ensures { Planned (job_of pieces.now links.now) (length pieces.now) (desks_of pieces.now) (starts_of spans.new)
         (finishes_of spans.new) (run_pieces runs.new.items) (run_froms runs.new.items) (run_untils runs.new.items)
         (length runs.new.items) }
 {
+    runs.clear();
     let job = Job {
         pieces,
         links,

@@ -44,9 +44,9 @@ loop-next-init c =
     record {
       held = before_first ps ls (keys start) g
           (record { states = c.begin.new.states; opened = c.begin-2.new.self; lasts = c.new-standing.result.lasts })
-          c.begin.new.spans c.args.runs.now.items c.begin.ensures.begun c.begin-2.ensures.waits.sized
+          c.begin.new.spans c.clear.new.self.items c.begin.ensures.begun c.begin-2.ensures.waits.sized
           c.begin-2.ensures.waits.counts (rw c.new-standing.ensures.lasts refl)
-          (λ d h. rw c.new-standing.ensures.lasts (get_or-replicate 32 d None None h)) c.requires.empty;
+          (λ d h. rw c.new-standing.ensures.lasts (get_or-replicate 32 d None None h)) c.clear.ensures;
       opening = c.begin-2.ensures.open_first (unfinished (left_of c.begin.new.states))
           (all_unfinished ps ls (keys start) g _ _ _ _ c.begin.ensures.begun);
       keys_same = refl;
