@@ -41,11 +41,7 @@ impl Standing {
         ensures lasts { result.lasts.places ≡ replicate 32 None }
     {
         Standing {
-            states: [State {
-                key: 0,
-                left: 0,
-                ready: 0,
-            }; 256],
+            states: [State::default(); 256],
             opened: Open::new(),
             lasts: LastRuns::new(),
         }

@@ -37,10 +37,7 @@ fn begin(pieces: &[Piece], latests: &[i32; 256], states: &mut [State; 256], span
             left,
             ready: piece.release,
         };
-        spans[i] = Span {
-            start: 0,
-            finish: 0,
-        };
+        spans[i] = Span::default();
     }
 }
 
