@@ -81,8 +81,8 @@ impl Standing {
             → OpenIn n (spent_to choice.now.chosen choice.now.busy (left_of self.new.states) U choice.now.count)
             self.new.opened }
     {
-        for q in 0..choice.count {
-            let desk = usize::from(choice.busy[q]);
+        for &d in &choice.busy[..choice.count] {
+            let desk = usize::from(d);
             let piece = choice.chosen[desk];
             let i = usize::from(piece);
             work_on(&job.pieces[i], t, next, &mut self.states[i], &mut spans[i]);

@@ -10,8 +10,8 @@ use Rattle.steps.specs.Work.{work, work_to}
 use Rattle.spending.proofs.Spent.{Spent}
 use Rattle.spending.proofs.Standing.spend_all.Given as goal
 
-abbrev pub invariant-loop-q : goal.invariant-loop-q
-invariant-loop-q l =
+abbrev pub invariant-loop-d : goal.invariant-loop-d
+invariant-loop-d l =
     let chosen = l.choice.chosen in
     let busy = l.choice.busy in
     let was = l.initial.self in
@@ -19,13 +19,13 @@ invariant-loop-q l =
     let begun = work (left_of was.states) (starts_of l.initial.spans) (finishes_of l.initial.spans) in
     let done = (work_to (durations_of l.job.pieces.now) l.t l.next chosen busy l.choice.count begun).left in record {
       worked : work (left_of l.self.states) (starts_of l.spans) (finishes_of l.spans)
-          ≡ work_to (durations_of l.job.pieces.now) l.t l.next chosen busy l.q begun;
+          ≡ work_to (durations_of l.job.pieces.now) l.t l.next chosen busy l.d-index begun;
       noted : log l.runs.items l.self.lasts.places
-          ≡ note_to l.t l.next chosen busy l.q (log l.initial.runs.items was.lasts.places);
+          ≡ note_to l.t l.next chosen busy l.d-index (log l.initial.runs.items was.lasts.places);
       handed : waiting_in l.self.opened l.self.states
-          ≡ hand_to (tied l.job) m l.next done chosen busy l.q (waiting_in was.opened was.states);
+          ≡ hand_to (tied l.job) m l.next done chosen busy l.d-index (waiting_in was.opened was.states);
       keys : keys_of l.self.states ≡ keys_of was.states;
       spent : Spent m (afters_of l.job.links.now) l.choice.count chosen busy done was.opened.count was.opened.table
-          was.opened.place was.opened.waits l.q l.self.opened.count l.self.opened.table l.self.opened.place
+          was.opened.place was.opened.waits l.d-index l.self.opened.count l.self.opened.table l.self.opened.place
           l.self.opened.waits;
     }
