@@ -48,8 +48,7 @@ hand_on-requires-clause-one c =
     let is : c.from-i.result ≡ whom c.args.choice.now.chosen c.args.choice.now.busy l.d-index =
     c.from-i.ensures
     ∙ ap (λ d. get_or c.args.choice.now.chosen d 0)
-    (c.from-desk.ensures
-    ∙ get_or-take c.args.choice.now.count c.args.choice.now.busy l.d-index 0 here) in
+    (c.from-desk.ensures ∙ get_or-take c.args.choice.now.count c.args.choice.now.busy l.d-index 0 here) in
     (rw is (l.invariant.spent.pending l.d-index (omega arith) here), c.requires.small)
 
 pub hand_on-requires-clause-room : goal.hand_on-requires-clause-room
@@ -59,9 +58,8 @@ hand_on-requires-clause-room c =
     let o = a.self.now.opened in
     let p = l.self.opened in
     spent_room (length a.job.now.links.now) (afters_of a.job.now.links.now) a.choice.now.count a.choice.now.chosen
-    a.choice.now.busy (done (goal.at.hand_on-requires-clause-room c).Start) o.count o.table o.place o.waits l.d-index p.count
-    p.table p.place p.waits l.invariant.spent
-    c.requires.room
+    a.choice.now.busy (done (goal.at.hand_on-requires-clause-room c).Start) o.count o.table o.place o.waits l.d-index
+    p.count p.table p.place p.waits l.invariant.spent c.requires.room
 
 pub loop-d-preserved : goal.loop-d-preserved
 loop-d-preserved c =
@@ -87,8 +85,8 @@ loop-d-preserved c =
     (made ∙ ap (λ k. forth durations a.t a.next k before) is) in
     let rest : get_or (left_of c.hand_on.new.states) i 0 ≡ get_or (done start) i 0 =
     ap (λ (v : Work). get_or v.left i 0) spent
-    ∙ left_stays durations a.t a.next a.choice.now.count chosen busy o.count o.table c.requires.working (begun start) l.d-index
-    here in
+    ∙ left_stays durations a.t a.next a.choice.now.count chosen busy o.count o.table c.requires.working (begun start)
+    l.d-index here in
     let ready = ready_then j.pieces.now a.t a.next c.from-i.result l.self.states c.hand_on.new.states l.spans _ _
     c.work_on.ensures.state_after c.work_on.ensures.span_after only in
     let handed = rw (ready, ← only.left_stays, is) at c.hand_on.ensures.ready_after in
@@ -103,8 +101,8 @@ loop-d-preserved c =
       keys = keys_then j.pieces.now a.t a.next c.from-i.result l.self.states c.hand_on.new.states l.spans _ _
           c.work_on.ensures.state_after c.work_on.ensures.span_after only ∙ l.invariant.keys;
       spent = spent_more m (afters_of j.links.now) a.choice.now.count chosen busy (done start) o.count o.table o.place
-          o.waits c.requires.working l.d-index l.self.opened.count l.self.opened.table l.self.opened.place l.self.opened.waits
-          here l.invariant.spent _ _ _ _
+          o.waits c.requires.working l.d-index l.self.opened.count l.self.opened.table l.self.opened.place
+          l.self.opened.waits here l.invariant.spent _ _ _ _
           (opens_by m (afters_of j.links.now) i _ (done start) _ _ _ _ _ _ _ _ rest hands);
     }
 
