@@ -1,18 +1,19 @@
 -- One piece in its turn: the least of its due and of what the links from it leave is its latest moment, since the pieces
 -- after it had theirs.
 use Prim.Native.Nat.{ℕ, suc, ◌+◌, ◌≤◌, ◌<◌}
-use mathlib.Core.List.{List, Memᴰ as Mem}
+use mathlib.Core.List.{List, [], ◌∷◌, ◌++◌, Memᴰ as Mem}
 use mathlib.Core.Logic.{⊎_elim}
-use mathlib.Core.Path.{◌≡◌, sym, ap, ◌∙◌}
+use mathlib.Core.Path.{◌≡◌, refl, sym, ap, ◌∙◌}
 use native.Mathlib.Omega.{arith}
 use borrow.Author.Tests.{eqb-true, eqb-false}
 use lib.Dec.{eqb}
 use lib.IntN.{ℤ, pos, negsuc, ◌-ℤ◌, nat_abs}
-use lib.ListN.{length, get_or, set}
+use lib.ListN.{length, get_or, get_or-append, set, take}
 use lib.Seq.{get_or-set_same, get_or-set_other}
 use mir.Syntax.{w32}
 use mir.Val.{SFits}
 use Rattle.std.specs.Int.{int_min}
+use Rattle.std.proofs.lemmas.List.{get_or-take, length-take-le, length_push, get_or_push}
 use lib.Signed.{lt_z}
 use Rattle.rules.specs.Words.{when, lesser_z}
 use Rattle.rules.specs.Job.{Job, piece}
@@ -153,6 +154,42 @@ module _ (i : ℕ) (ps : List Piece) (ls : List Link) where
 abbrev pub Done : List Piece → List Link → Walk → ℕ → List ℤ → Type 0
 Done ps ls walk p moments = (q : ℕ) → p ≤ q → q < length ps
     → get_or moments (get_or walk.order q 0) (pos 0) ≡ latest (job_of ps ls) (get_or walk.order q 0)
+
+-- The places in front, whose pieces have their turn yet, are the first of the order.
+pub record InFront (order front : List ℕ) (n : ℕ) : Type 0 where
+  pub few : length front ≤ n
+  pub are : (k : ℕ) → k < length front → get_or front k 0 ≡ get_or order k 0
+
+pub front_all : (order front : List ℕ) (n : ℕ) → n ≤ length order → front ≡ take n order
+    → (length front ≡ n) × InFront order front n
+front_all order front n room is =
+    let sized : length front ≡ n = ap length is ∙ length-take-le n order room in (
+      sized,
+      record {
+        few = omega (arith, sized);
+        are = λ k h. ap (λ (l : List ℕ). get_or l k 0) is ∙ get_or-take n order k 0 (omega (arith, sized));
+      },
+    )
+
+-- The last of them has its turn.
+module _ (order before front : List ℕ) (n x : ℕ) (f : InFront order before n) (split : before ≡ front ++ (x ∷ [])) where
+  pub longer : length before ≡ length front + 1
+  longer = ap length split ∙ length_push front x
+
+  pub last_in : length front < n
+  last_in = omega (arith, longer, f.few)
+
+  pub last_is : x ≡ get_or order (length front) 0
+  last_is =
+      sym (get_or_push front x 0 (length front) refl)
+      ∙ ap (λ (l : List ℕ). get_or l (length front) 0) (sym split) ∙ f.are (length front) (omega (arith, longer))
+
+  pub front_less : InFront order front n
+  front_less = record {
+    few = omega (arith, last_in);
+    are = λ k h. sym (get_or-append front (x ∷ []) 0 k h) ∙ ap (λ (l : List ℕ). get_or l k 0) (sym split)
+        ∙ f.are k (omega (arith, longer, h));
+  }
 
 module _ {ps : List Piece} {ls : List Link} {walk : Walk} (A : ToTime ps ls walk) where
   abbrev K : Job

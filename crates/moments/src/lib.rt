@@ -60,8 +60,8 @@ pub fn latest_moments(pieces: &[Piece], links: &[Link], walk: &Walk, moments: &m
     requires { ToTime pieces.now links.now walk.now }
     ensures { Timed pieces.now links.now moments.new }
 {
-    for p in (0..pieces.len()).rev() {
-        let i = usize::from(walk.order[p]);
+    for &number in walk.order[..pieces.len()].iter().rev() {
+        let i = usize::from(number);
         moments[i] = piece_moment(i, pieces, links, &walk.chains, moments);
     }
 }

@@ -37,8 +37,15 @@ total : (c : After-from-4) → c.from-4.result + c.delay-delayed.result
 total c =
     let J = job_of c.args.pieces.now c.args.links.now in
     let l = get_or c.args.links.now c.args.k no_link in
-    rw (takes_off_is J l, delay_is J l, c.from-4.ensures, c.delay-delayed.ensures.0, c.from-3.ensures, c.from.ensures,
-        c.from-2.ensures)
+    rw (
+      takes_off_is J l,
+      delay_is J l,
+      c.from-4.ensures,
+      c.delay-delayed.ensures.0,
+      c.from-3.ensures,
+      c.from.ensures,
+      c.from-2.ensures,
+    )
 
 small : (c : After-from-4) → c.from-4.result + c.delay-delayed.result ≤ 1440
 small c = rw (total c) (takes_off_most (job_of c.args.pieces.now c.args.links.now) c.requires.sound _
