@@ -69,8 +69,8 @@ impl Open {
         ensures sized { length self.new.place ≡ 256 }
         ensures placed { (q : ℕ) → q < self.old.count → get_or self.new.place (get_or self.old.table q 0) 0 ≡ q }
     {
-        for k in 0..self.count {
-            self.place[usize::from(self.table[k])] = k as u16;
+        for (k, &p) in self.table[..self.count].iter().enumerate() {
+            self.place[usize::from(p)] = k as u16;
         }
     }
 
