@@ -14,6 +14,8 @@ use rules::Link;
 use steps::State;
 
 /// The open pieces, and how many pieces each piece waits for.
+// A table with a count and no list, as `place_free` of links fills it; `place` turns it round, so that a piece is taken
+// out without a search.
 #[derive(Drop)]
 pub struct Open {
     /// The open pieces stand in the first `count` places, in any order.
