@@ -15,7 +15,7 @@ use method::BlockRow;
 use numbers::lateness;
 use rules::Run;
 
-/// Puts a row for each block of the set into the list, by time.
+/// Puts a row for each block of the set into the list, by time, whatever it held before.
 pub fn first_blocks(entries: &[Entry], rows: &mut ArrayVec<BlockRow, 256>)
     requires { Listed entries.now }
     ensures few { length rows.new.items ≤ length entries.now }

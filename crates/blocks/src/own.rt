@@ -7,7 +7,7 @@ ghost use Rattle.blocks.specs.Own.{Between, OwnLinks};
 use arrayvec::ArrayVec;
 use rules::{Link, Piece};
 
-/// Puts the desk's own links into the list.
+/// Puts the desk's own links into the list, whatever it held before.
 pub fn own_links(pieces: &[Piece], links: &[Link], desk: u8, own: &mut ArrayVec<Link, 1024>)
     requires between { Between (length pieces.now) links.now }
     requires few { (length pieces.now ≤ 256) × (length links.now ≤ 1024) }

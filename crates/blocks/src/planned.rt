@@ -17,7 +17,8 @@ use ready::raise::raised_moments;
 use rules::{Link, Piece, Run, Span};
 use solve::sets::cut_set;
 
-/// THE BLOCK SHEET of one desk: puts its blocks and its runs into the lists, by time, and returns the worst lateness.
+/// THE BLOCK SHEET of one desk: puts its blocks and its runs into the lists, by time, whatever they held
+/// before, and returns the worst lateness.
 pub fn planned_sheet(
     pieces: &[Piece],
     links: &[Link],
