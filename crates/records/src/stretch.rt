@@ -16,7 +16,7 @@ fn is_run_of(records: &[u8], desk: u8, k: usize) -> bool
 }
 
 // The first record from a place on that is a run of the desk, or that is none, as `wanted` says; the count of whole
-// records where there is no such record.
+// records where there is no such record. That count is no code: it is the place where a stretch ends that none follows.
 fn first_from(records: &[u8], desk: u8, from: usize, wanted: bool) -> usize
     requires { from ≤ whole_records records.now }
     ensures { FirstFrom records.now desk from wanted result }
