@@ -82,6 +82,8 @@ fn cheapest(entries: &[Entry], marks: &[Mark; 256]) -> Option<Entry>
 }
 
 /// The entry that is set aside of a block; none where each has a piece after it.
+// Not inlined: else its marks would stand in the frame of each block that is solved within another.
+#[inline(never)]
 pub fn set_aside(links: &[Link], entries: &[Entry]) -> Option<Entry>
     requires tied { Tied links.now }
     requires known { Known entries.now }
