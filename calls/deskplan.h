@@ -12,8 +12,8 @@
  * links, and no other thing that is written. What is only read may overlap.
  *
  * The calls keep nothing from one to the next and allocate nothing, so they may run at the same time on
- * different buffers. Their tables stand on the stack: desk_plan takes 28 KB of it, desk_listing 27 KB, desk_blocks
- * 51 to 102 KB (the most for 256 pieces of which each interrupts the one before), the others less than 1 KB.
+ * different buffers. Their tables stand on the stack: desk_plan takes 28 KB of it, desk_listing 28 KB, desk_blocks
+ * 42 to 77 KB (the most for 256 pieces of which each interrupts the one before), the others less than 1 KB.
  * DESK_STACK bytes are enough for every call.
  */
 #ifndef DESKPLAN_H

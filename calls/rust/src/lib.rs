@@ -19,7 +19,7 @@
 //! ```
 //!
 //! The module [`raw`] has the same calls with all their numbers as the library answers them. A call takes room on the
-//! stack, [`blocks`] the most with up to 102 KB; a thread of Rust has 2 MB.
+//! stack, [`blocks`] the most with up to 77 KB; a thread of Rust has 2 MB.
 
 #![deny(unsafe_code)]
 #![deny(missing_docs)]
