@@ -14,7 +14,6 @@ pub fn finish_plan(pieces: &[Piece], links: &[Link], walk: &Walk, plan: &mut Pla
     requires { ToTime pieces.now links.now walk.now }
     ensures { Finished (job_of pieces.now links.now) plan.new }
 {
-    plan.runs.clear();
     latest_moments(pieces, links, walk, &mut plan.latests);
     urgency::plan(
         pieces,

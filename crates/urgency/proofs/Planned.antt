@@ -10,7 +10,8 @@ use borrow.Author.Tests.{lt-ltb}
 use lib.ListN.{length, get_or, take}
 use Rattle.std.specs.declared.option.Option.TheVariants.{None}
 use Rattle.rules.specs.Job.{Job}
-use Rattle.rules.specs.Tables.{job_of, desks_of, durations_of, releases_of, befores_of, afters_of, starts_of, finishes_of, run_pieces, run_froms, run_untils, no_link}
+use Rattle.rules.specs.Tables.{job_of, desks_of, durations_of, releases_of, befores_of, afters_of, starts_of}
+use Rattle.rules.specs.Tables.{finishes_of, run_pieces, run_froms, run_untils, no_link}
 use Rattle.rules.specs.Urgency.{start, finish, horizon}
 use Rattle.rules.specs.declared.Link.{Link}
 use Rattle.rules.specs.declared.Piece.{Piece}
