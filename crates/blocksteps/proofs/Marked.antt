@@ -17,7 +17,7 @@ use Rattle.blocksteps.specs.declared.aside.Mark.TheVariants.{Outside, Member, Le
 use Rattle.blocksteps.specs.Aside.{Marks, no_mark, is_among, member_mark, led_mark}
 
 -- One more mark.
-marks-set : (marks : List Mark) (f g : ℕ → Mark) (j : ℕ) (v : Mark) → Marks marks f → j < 256 → g j ≡ v
+pub marks-set : (marks : List Mark) (f g : ℕ → Mark) (j : ℕ) (v : Mark) → Marks marks f → j < 256 → g j ≡ v
     → ((i : ℕ) → (i ≡ j → ⊥) → g i ≡ f i) → Marks (set marks j v) g
 marks-set marks f g j v h small same other = record {
   sized = length-set marks j v ∙ h.sized;
@@ -27,7 +27,7 @@ marks-set marks f g j v h small same other = record {
       (λ e. get_or-set_other marks j i v Outside e ∙ h.each i l ∙ sym (other i e));
 }
 
-marks_same : (marks : List Mark) (f g : ℕ → Mark) → Marks marks f → ((i : ℕ) → g i ≡ f i) → Marks marks g
+pub marks_same : (marks : List Mark) (f g : ℕ → Mark) → Marks marks f → ((i : ℕ) → g i ≡ f i) → Marks marks g
 marks_same marks f g h k = record { sized = h.sized; each = λ i l. h.each i l ∙ sym (k i) }
 
 one_of_snoc : {A : Type 0} (p : A → Bool) (xs : List A) (x : A) → one_of p (xs ++ (x ∷ [])) ≡ (p x || one_of p xs)
@@ -116,7 +116,7 @@ not_outside follows es i e =
     (by_test {P = when (one_of (λ e. follows i e.number) es) Led Member ≡ Outside → ⊥} (one_of (λ e. follows i e.number) es)
     (λ k. rw (k, when) (λ q. cc)) (λ k. rw (k, when) (λ q. cc)))
 
-mark_out : (follows : ℕ → ℕ → Bool) (es : List Entry) (i : ℕ) → is_among es i ≡ false → led_mark follows es i ≡ Outside
+pub mark_out : (follows : ℕ → ℕ → Bool) (es : List Entry) (i : ℕ) → is_among es i ≡ false → led_mark follows es i ≡ Outside
 unfolding led_mark
 mark_out follows es i e = when_false _ _ Outside e
 

@@ -24,7 +24,7 @@ split_last runs h =
     sym (sym (take_more runs (length runs - 1) no_run (omega arith))
     ∙ ap (λ (k : ℕ). take k runs) one ∙ take_all (length runs) runs (omega arith))
 
-board_last : (runs : List Stretch) → 0 < length runs → board_of runs ≡ last_of runs ∷ reverse (front_of runs)
+pub board_last : (runs : List Stretch) → 0 < length runs → board_of runs ≡ last_of runs ∷ reverse (front_of runs)
 board_last runs h =
     ap reverse (split_last runs h) ∙ reverse-append (front_of runs) (last_of runs ∷ [])
 

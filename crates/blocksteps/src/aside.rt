@@ -1,6 +1,7 @@
 // Who is set aside of a block: among the pieces without a piece after them by a direct link in the same block, the one
 // with least cost at the block's end (greatest latest moment; highest number where equal). And the block without it.
 ghost use Rattle.std.specs.Prelude.{ℕ, Bool, List, ◌≡◌, length};
+ghost use Rattle.std.specs.Option.{option_copied};
 ghost use Rattle.rules.specs.Rings.{linked_by};
 ghost use Rattle.rules.specs.Blocks.{costs_less, cheaper};
 ghost use Rattle.entries.specs.Lent.{meant};
@@ -52,18 +53,14 @@ fn costs_less(entry: &Entry, other: &Entry) -> bool
     (other.latest, other.number) < (entry.latest, entry.number)
 }
 
-// The cheaper of an entry and the best so far.
-fn cheaper(entry: Entry, best: Option<Entry>) -> Entry
-    ensures { meant result ≡ cheaper (meant entry) (optional meant best) }
+// The cheaper of an entry and the best so far. By reference: an entry handed on by value was copied at each look.
+fn cheaper<'a>(entry: &'a Entry, best: Option<&'a Entry>) -> &'a Entry
+    ensures { meant result.now ≡ cheaper (meant entry.now) (optional meant (option_copied best.entry)) }
 {
     let Some(best) = best else {
         return entry;
     };
-    if costs_less(&best, &entry) {
-        best
-    } else {
-        entry
-    }
+    if costs_less(best, entry) { best } else { entry }
 }
 
 // The cheapest of those that are members and led by none.
@@ -75,10 +72,10 @@ fn cheapest(entries: &[Entry], marks: &[Mark; 256]) -> Option<Entry>
     let mut best = None;
     for entry in entries.iter().rev() {
         if marks[usize::from(entry.number)] == Mark::Member {
-            best = Some(cheaper(*entry, best));
+            best = Some(cheaper(entry, best));
         }
     }
-    best
+    best.copied()
 }
 
 /// The entry that is set aside of a block; none where each has a piece after it.
@@ -102,8 +99,8 @@ pub fn without(entries: &mut [Entry], number: u16) -> usize
     // In place, as the entries are a part of the set's: a slice has no `retain`.
     let mut kept = 0;
     for k in 0..entries.len() {
-        let entry = take_entry(entries, k);
-        if entry.number != number {
+        if entries[k].number != number {
+            let entry = take_entry(entries, k);
             put_entry(entries, kept, entry);
             kept += 1;
         }

@@ -11,8 +11,8 @@ returns-in_default c = rw c.in_default.is
 
 pub returns-then-costs_less : goal.returns-then-costs_less
 unfolding cheaper
-returns-then-costs_less c = rw c.in-Some.is (sym (when_true _ _ (meant c.args.entry) (sym c.if-costs_less.ensures)))
+returns-then-costs_less c = rw c.in-Some.is (sym (when_true _ _ (meant c.args.entry.now) (sym c.if-costs_less.ensures)))
 
 pub returns-else-costs_less : goal.returns-else-costs_less
 unfolding cheaper
-returns-else-costs_less c = rw c.in-Some.is (sym (when_false _ (meant c.in-Some.best) _ (sym c.if-costs_less.ensures)))
+returns-else-costs_less c = rw c.in-Some.is (sym (when_false _ (meant c.in-Some.best.now) _ (sym c.if-costs_less.ensures)))

@@ -1,5 +1,6 @@
 -- `cheapest` meets its contract: the best of the entries behind is known, and with those in front it is the best of all.
 use Rattle.std.proofs.Common.{◌≡◌, ◌<◌, List, [], ◌∷◌, ◌++◌, length, sym, rules}
+use Rattle.std.specs.Option.{option_copied}
 use denote.Enum.Bare.{same_true, same_false}
 use Rattle.entries.specs.declared.list.Entry.{Entry}
 use Rattle.blocksteps.specs.contracts.aside.Mark.{the_type}
@@ -31,8 +32,8 @@ loop-entry-preserved-then-eq c =
     let split = c.in-Some.ensures.steps in (
       front_less before front es e s.invariant.0 split,
       λ follows h. best_take follows es _ h before front e s.invariant.0 split
-          (known_last es before front e c.requires s.invariant.0 split) s.best (s.invariant.1 follows h)
-          c.cheaper.result (rw c.from.ensures at (same_true the_type (search rules) _ Member (sym c.if-eq.ensures)))
+          (known_last es before front e c.requires s.invariant.0 split) (option_copied s.best) (s.invariant.1 follows h)
+          c.cheaper.result.now (rw c.from.ensures at (same_true the_type (search rules) _ Member (sym c.if-eq.ensures)))
           c.cheaper.ensures,
     )
 
@@ -46,12 +47,12 @@ loop-entry-preserved c =
     let split = c.in-Some.ensures.steps in (
       front_less before front es e s.invariant.0 split,
       λ follows h. best_skip follows es _ h before front e s.invariant.0 split
-          (known_last es before front e c.requires s.invariant.0 split) s.best (s.invariant.1 follows h)
+          (known_last es before front e c.requires s.invariant.0 split) (option_copied s.best) (s.invariant.1 follows h)
           (rw c.from.ensures at (same_false the_type _ Member (sym c.if-eq.ensures))),
     )
 
 pub returns : goal.returns
 returns c follows h =
     let s = c.loop-entry in
-    best_of_all follows c.args.entries.now s.entry-iterator.iter.rest.now s.best (s.invariant.1 follows h)
-    c.in-None.ensures.steps.0
+    rw c.copied.ensures (best_of_all follows c.args.entries.now s.entry-iterator.iter.rest.now (option_copied s.best)
+    (s.invariant.1 follows h) c.in-None.ensures.steps.0)
