@@ -55,6 +55,15 @@ impl Placing {
         }
     }
 
+    // As at first: no piece is placed, and each waits for so many links.
+    pub(crate) fn begin(&mut self, each: u16)
+        ensures begun { self.new ≡ record { order = self.old.order; placed = 0; waits = replicate 256 each } }
+        ensures sized { length self.old.order ≡ 256 }
+    {
+        self.placed = 0;
+        self.waits = [each; 256];
+    }
+
     // One link to piece j is passed: it waits for one less, and is placed with the last.
     fn pass_one(&mut self, j: usize)
         requires { ToPassOne j self.old }

@@ -34,12 +34,12 @@ impl Walk {
 }
 
 // Whether piece i leads to itself: each piece waits for one link, the links from i are passed, then all from what is
-// placed.
-fn leads_back(i: usize, links: &[Link], chains: &Chains) -> bool
+// placed. The queue may hold anything: it is lent, so that its tables are not made anew for each piece.
+fn leads_back(i: usize, links: &[Link], chains: &Chains, queue: &mut Placing) -> bool
     requires { ToLead i links.now chains.now }
     ensures { LeadsBack i links.now chains.now result }
 {
-    let mut queue = Placing::new(1);
+    queue.begin(1);
     queue.pass_on(i, links, chains);
     queue.pass_all(links, chains);
     queue.waits[i] == 0
@@ -52,8 +52,9 @@ fn lowest_on_ring(pieces: usize, links: &[Link], chains: &Chains) -> Result<(), 
     ensures { ring_at result
         ≡ lowest_on_ring (follows (length links.now) (befores_of links.now) (afters_of links.now)) pieces }
 {
+    let mut queue = Placing::new(1);
     for i in 0..pieces {
-        if leads_back(i, links, chains) {
+        if leads_back(i, links, chains, &mut queue) {
             return Err(i);
         }
     }
