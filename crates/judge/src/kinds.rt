@@ -82,10 +82,13 @@ impl Entry for Link {
 
     #[tactic(auto, unfolding(rules::specs::File::as_link))]
     fn said(r: &[u8]) -> Link {
+        // After and handover are read as one word and parted: as two halves they were put together again on the stack, for
+        // the copy into the list, and each link waited there for the one before.
+        let word = word_at(r, 4);
         Link {
             before: half_at(r, 2),
-            after: half_at(r, 4),
-            handover: half_at(r, 6),
+            after: (word % 65536) as u16,
+            handover: (word / 65536) as u16,
         }
     }
 
