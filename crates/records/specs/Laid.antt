@@ -2,7 +2,7 @@
 use Rattle.std.specs.Prelude.{ℕ, List, get_or}
 use Rattle.rules.specs.Bytes.{word, plan_record}
 use Rattle.records.specs.declared.put.Kind.{Kind}
-use Rattle.records.specs.declared.put.Kind.TheVariants.{Piece, Link, Result, Run, Block}
+use Rattle.records.specs.declared.put.Kind.TheVariants.{Piece, Link, Result, Run, Block, Other}
 use Rattle.records.specs.declared.put.Row.{Row}
 
 -- The first byte.
@@ -12,6 +12,7 @@ code_of Link = 2
 code_of Result = 17
 code_of Run = 18
 code_of Block = 19
+code_of (Other byte) = byte
 
 abbrev pub row_bytes : Row → List ℕ
 row_bytes r =

@@ -9,6 +9,17 @@ pub struct Lent<'a> {
     pub at: usize,
 }
 
+// Bytes are put over a part of as many, one by one: a copy at once is a call of memmove where the lengths are not known,
+// which a library for C would need from outside.
+fn put_over(part: &mut [u8], more: &[u8])
+    requires { length part.old ≡ length more.now }
+    ensures { part.new ≡ more.now }
+{
+    for (k, &byte) in more.iter().enumerate() {
+        part[k] = byte;
+    }
+}
+
 impl<'a> Lent<'a> {
     ghost use Rattle.records.specs.Puts.{Puts, Room};
 
@@ -17,7 +28,7 @@ impl<'a> Lent<'a> {
         requires { Room self.old (length more.now) }
         ensures { Puts self.old more.now self.new }
     {
-        self.bytes[self.at..self.at + more.len()].copy_from_slice(more);
+        put_over(&mut self.bytes[self.at..self.at + more.len()], more);
         self.at += more.len();
     }
 }

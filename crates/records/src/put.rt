@@ -15,6 +15,8 @@ pub enum Kind {
     Result,
     Run,
     Block,
+    /// Any other, by its byte: a record is put of whatever kind its caller says.
+    Other(u8),
 }
 
 impl From<Kind> for u8 {
@@ -27,6 +29,7 @@ impl From<Kind> for u8 {
             Kind::Result => 17,
             Kind::Run => 18,
             Kind::Block => 19,
+            Kind::Other(byte) => byte,
         }
     }
 }

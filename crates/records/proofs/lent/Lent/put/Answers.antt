@@ -7,10 +7,10 @@ use Rattle.records.proofs.lent.Lent.put.Goals as goal
 pub returns : goal.returns
 returns c =
     let a = c.args.self.now in
-    let same = c.copy_from_slice.ensures.after in
+    let same = c.put_over.ensures in
     record {
       written =
-          put_mid-sets a.at (length c.args.more.now) a.bytes.now c.copy_from_slice.new.self (ap (λ bytes. length bytes) same)
+          put_mid-sets a.at (length c.args.more.now) a.bytes.now c.put_over.new.part (ap (λ bytes. length bytes) same)
           c.requires
           ∙ ap (sets a.bytes.now a.at) same;
       past = refl;
