@@ -88,7 +88,7 @@ module _ (ps : List Piece) (ls : List Link) (finishes : List ℕ) (latests : Lis
     abbrev own : List ℕ
     own = on_desk (desks_of ps) d 0 n
 
-    own_pieces : desk_pieces J d ≡ own
+    pub own_pieces : desk_pieces J d ≡ own
     unfolding desk_pieces on_desk below
     own_pieces =
         keep_same (λ i. eqb (desk J i) d) (λ k. eqb (get_or (desks_of ps) k 0) d) (row 0 n)

@@ -14,7 +14,7 @@ pub more_digits : (k n : ℕ) → 10 ≤ n → digits_within (suc k) n ≡ digit
 unfolding digits_within
 more_digits k n l = when_false _ _ _ (le-ltb n 10 l)
 
-few_digits : (k n : ℕ) → length (digits_within k n) ≤ k
+pub few_digits : (k n : ℕ) → length (digits_within k n) ≤ k
 unfolding digits_within
 few_digits zero n = omega arith
 few_digits (suc k) n = by_test (ltb n 10)
