@@ -116,7 +116,8 @@ not_outside follows es i e =
     (by_test {P = when (one_of (λ e. follows i e.number) es) Led Member ≡ Outside → ⊥} (one_of (λ e. follows i e.number) es)
     (λ k. rw (k, when) (λ q. cc)) (λ k. rw (k, when) (λ q. cc)))
 
-pub mark_out : (follows : ℕ → ℕ → Bool) (es : List Entry) (i : ℕ) → is_among es i ≡ false → led_mark follows es i ≡ Outside
+pub mark_out : (follows : ℕ → ℕ → Bool) (es : List Entry) (i : ℕ) → is_among es i ≡ false
+    → led_mark follows es i ≡ Outside
 unfolding led_mark
 mark_out follows es i e = when_false _ _ Outside e
 

@@ -15,4 +15,5 @@ returns-then-costs_less c = rw c.in-Some.is (sym (when_true _ _ (meant c.args.en
 
 pub returns-else-costs_less : goal.returns-else-costs_less
 unfolding cheaper
-returns-else-costs_less c = rw c.in-Some.is (sym (when_false _ (meant c.in-Some.best.now) _ (sym c.if-costs_less.ensures)))
+returns-else-costs_less c =
+    rw c.in-Some.is (sym (when_false _ (meant c.in-Some.best.now) _ (sym c.if-costs_less.ensures)))
