@@ -1,3 +1,3 @@
--- An entry in its place among others in order.
-pub mod InPlace
-pub mod Moved
+-- Keys in order, and entries in the order of their keys.
+pub mod OneOrder
+pub mod ByKeys

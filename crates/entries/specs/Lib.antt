@@ -1,2 +1,3 @@
--- The words of a lent slice of entries.
+-- The words of a lent slice of entries: what it holds, and its order as plain numbers.
 pub mod Lent
+pub mod Keys
