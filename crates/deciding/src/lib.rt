@@ -8,7 +8,7 @@ ghost use Rattle.rules.specs.Tables.{desks_of};
 ghost use Rattle.steps.specs.Choice.{view, whom, never, end_next, Decided};
 ghost use Rattle.steps.specs.Keys.{no_key};
 ghost use Rattle.steps.specs.Opening.{Among, Lookable};
-ghost use Rattle.steps.specs.States.{keys_of, left_of, ready_of};
+ghost use Rattle.steps.specs.States.{left_of, ready_of};
 ghost use Rattle.deciding.specs.Look.{Asked, Looked, picks, offered, piece_of, named};
 
 use rules::Piece;
@@ -55,32 +55,33 @@ fn offer(key: u64, d: usize, count: usize, best: &mut [u64; 32], busy: &mut [u16
 }
 
 // One pass over the open pieces: finds the least key for every desk, and the first later moment at which a piece becomes
-// ready.
+// ready. By `else` and not by `continue`: as it is compiled, a turn on a piece that waits then takes one jump, not two.
 fn look_at(
     t: u32,
     opened: &[u16],
     pieces: &[Piece],
+    keys: &[u64; 256],
     states: &[State; 256],
     best: &mut [u64; 32],
     busy: &mut [u16; 33],
 ) -> Look
-    requires lookable { Lookable (length pieces.now) opened.now (desks_of pieces.now) (keys_of states.now) }
+    requires lookable { Lookable (length pieces.now) opened.now (desks_of pieces.now) keys.now }
     requires clear { (d : ℕ) → d < 32 → get_or best.old d 0 ≡ no_key }
     ensures { (left : List ℕ)
-        → Looked (view t (desks_of pieces.now) (keys_of states.now) left (ready_of states.now))
+        → Looked (view t (desks_of pieces.now) keys.now left (ready_of states.now))
         (Among opened.now (length opened.now)) result.count best.new busy.new result.next }
 {
     let mut count = 0;
     let mut next = NEVER;
     for &i in opened {
         let i = usize::from(i);
-        let state = &states[i];
-        let later = t < state.ready;
+        let ready = states[i].ready;
+        let later = t < ready;
         if later {
-            next = next.min(state.ready);
-            continue;
+            next = next.min(ready);
+        } else {
+            count = offer(keys[i], usize::from(pieces[i].desk), count, best, busy);
         }
-        count = offer(state.key, usize::from(pieces[i].desk), count, best, busy);
     }
     Look { count, next }
 }
@@ -129,17 +130,18 @@ impl Choice {
         t: u32,
         opened: &[u16],
         pieces: &[Piece],
+        keys: &[u64; 256],
         states: &[State; 256],
     ) -> Option<u32>
-        requires lookable { Lookable (length pieces.now) opened.now (desks_of pieces.now) (keys_of states.now) }
+        requires lookable { Lookable (length pieces.now) opened.now (desks_of pieces.now) keys.now }
         requires in_time { t < never }
-        ensures decided { Decided (view t (desks_of pieces.now) (keys_of states.now) (left_of states.now)
+        ensures decided { Decided (view t (desks_of pieces.now) keys.now (left_of states.now)
             (ready_of states.now)) (Among opened.now (length opened.now)) self.new.count self.new.chosen self.new.busy
             (unwrap_or result never) }
         ensures later { IfSome result (λ next. next < never) }
     {
         let mut best = [NO_KEY; 32];
-        let look = look_at(t, opened, pieces, states, &mut best, &mut self.busy);
+        let look = look_at(t, opened, pieces, keys, states, &mut best, &mut self.busy);
         self.count = look.count;
         let next = first_end(
             t,

@@ -59,7 +59,7 @@ module _ (j : Job) (k c : ℕ) (waits : List ℕ) (xs : List State) where
   link = get_or j.links.now k no_link
 
   abbrev readied : ℕ → ℕ → List State
-  readied a r = set xs a (record { key = (get_or xs a no_state).key; left = (get_or xs a no_state).left; ready = r })
+  readied a r = set xs a (record { left = (get_or xs a no_state).left; ready = r })
 
   delay_is : (a b h d : ℕ) → a ≡ get_or (afters_of j.links.now) k 0 → b ≡ link.before → h ≡ link.handover
       → d ≡ when (eqb (get_or j.pieces.now b no_piece).desk (get_or j.pieces.now a no_piece).desk) 0 h
@@ -82,16 +82,13 @@ module _ (j : Job) (k c : ℕ) (waits : List ℕ) (xs : List State) where
       rw (ready, ew, later, after)
 
   pub ready_alone : (a r : ℕ) → OnlyReady xs (readied a r)
-  ready_alone a r = record {
-    keys_stay = map-set_same (λ x. x.key) xs a _ no_state refl;
-    left_stays = map-set_same (λ x. x.left) xs a _ no_state refl;
-  }
+  ready_alone a r = record { left_stays = map-set_same (λ x. x.left) xs a _ no_state refl }
 
 pub ready_same : (xs : List State) → OnlyReady xs xs
-ready_same xs = record { keys_stay = refl; left_stays = refl }
+ready_same xs = record { left_stays = refl }
 
 pub ready_then : (xs ys zs : List State) → OnlyReady xs ys → OnlyReady ys zs → OnlyReady xs zs
-ready_then xs ys zs a b = record { keys_stay = b.keys_stay ∙ a.keys_stay; left_stays = b.left_stays ∙ a.left_stays }
+ready_then xs ys zs a b = record { left_stays = b.left_stays ∙ a.left_stays }
 
 -- A piece that was worked on, by the ways the code takes, and one desk more.
 module _ (l : Ties) (m c : ℕ) (left : List ℕ) where

@@ -5,7 +5,7 @@ use Rattle.links.specs.Chains.{Chained}
 use Rattle.links.specs.Links.{Ties as Between}
 use Rattle.steps.specs.Handover.{Ties, ties, Waiting, waiting}
 use Rattle.steps.specs.Opening.{Among, Opening, Room, Opens, Closable, Closes, Hands}
-use Rattle.steps.specs.States.{keys_of, left_of, ready_of}
+use Rattle.steps.specs.States.{left_of, ready_of}
 use Rattle.steps.specs.declared.State.{State}
 use Rattle.handing.specs.declared.job.Job.{Job}
 use Rattle.handing.specs.declared.open.Open.{Open}
@@ -52,5 +52,4 @@ HandsOn j i xs o o' =
 
 -- Ready moments alone have changed.
 pub record OnlyReady (old new : List State) : Type 0 where
-  pub keys_stay : keys_of new ≡ keys_of old
   pub left_stays : left_of new ≡ left_of old

@@ -11,7 +11,7 @@ use Rattle.rules.specs.declared.Piece.{Piece}
 use Rattle.rules.specs.declared.Span.{Span}
 use Rattle.laws.proofs.Columns.{get_or-durations}
 use Rattle.laws.proofs.Words.{by_test}
-use Rattle.steps.specs.States.{keys_of, left_of, ready_of, no_state}
+use Rattle.steps.specs.States.{left_of, ready_of, no_state}
 use Rattle.steps.specs.Work.{Work, work, forth, work_to}
 use Rattle.steps.specs.declared.State.{State}
 use Rattle.moving.specs.Worked.{worked_state, worked_span}
@@ -43,9 +43,6 @@ module _ (ps : List Piece) (t next i : ℕ) (xs : List State) (ws : List Span) w
       let ends : finishes_of spans_after ≡ set (finishes_of ws) i next = map-set (λ w. w.finish) ws i span in
       let was : get_or (left_of xs) i 0 ≡ state.left = get_or-map (λ x. x.left) xs i no_state in
       rw (was, get_or-durations ps i, left, starts_after, ends)
-
-  pub keys_stay : keys_of states_after ≡ keys_of xs
-  keys_stay = map-set_same (λ x. x.key) xs i _ no_state refl
 
   pub ready_stays : ready_of states_after ≡ ready_of xs
   ready_stays = map-set_same (λ x. x.ready) xs i _ no_state refl

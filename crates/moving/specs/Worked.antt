@@ -8,7 +8,7 @@ use Rattle.steps.specs.declared.State.{State}
 
 module _ (t next : ℕ) where
   abbrev pub worked_state : State → State
-  worked_state x = record { key = x.key; left = x.left - (next - t); ready = x.ready }
+  worked_state x = record { left = x.left - (next - t); ready = x.ready }
 
   abbrev pub worked_span : Piece → State → Span → Span
   worked_span p x w = record { start = when (eqb x.left p.duration) t w.start; finish = next }

@@ -16,9 +16,9 @@ use Rattle.rules.specs.declared.Piece.{Piece}
 use Rattle.rules.specs.declared.Span.{Span}
 use Rattle.laws.proofs.Words.{by_test}
 use Rattle.handing.specs.Open.{OnlyReady}
-use Rattle.moving.proofs.Worked.{works_on, keys_stay, ready_stays}
+use Rattle.moving.proofs.Worked.{works_on, ready_stays}
 use Rattle.moving.specs.Worked.{worked_state, worked_span}
-use Rattle.steps.specs.States.{keys_of, left_of, ready_of, no_state}
+use Rattle.steps.specs.States.{left_of, ready_of, no_state}
 use Rattle.steps.specs.declared.State.{State}
 use Rattle.steps.specs.Choice.{whom}
 use Rattle.steps.specs.Handover.{Ties, Waiting, hand_on, hand_to}
@@ -73,9 +73,6 @@ module _ (ps : List Piece) (t next i : ℕ) (xs zs : List State) (ws : List Span
   pub worked_then : work (left_of zs) (starts_of (set ws i y)) (finishes_of (set ws i y))
       ≡ forth (durations_of ps) t next i (work (left_of xs) (starts_of ws) (finishes_of ws))
   worked_then = rw (only.left_stays, state_is, span_is) (works_on ps t next i xs ws)
-
-  pub keys_then : keys_of zs ≡ keys_of xs
-  keys_then = only.keys_stay ∙ rw state_is (keys_stay ps t next i xs ws)
 
   pub ready_then : ready_of (set xs i x) ≡ ready_of xs
   ready_then = rw state_is (ready_stays ps t next i xs ws)

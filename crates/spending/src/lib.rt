@@ -9,7 +9,7 @@ ghost use Rattle.steps.specs.Choice.{whom, Busy};
 ghost use Rattle.steps.specs.Handover.{hand_to};
 ghost use Rattle.steps.specs.Log.{log, note_to};
 ghost use Rattle.steps.specs.Opening.{Working, spent_to};
-ghost use Rattle.steps.specs.States.{keys_of, left_of, no_state};
+ghost use Rattle.steps.specs.States.{left_of, no_state};
 ghost use Rattle.steps.specs.Work.{work, work_to};
 
 use arrayvec::ArrayVec;
@@ -74,7 +74,6 @@ impl Standing {
         ensures ready_after { waiting_in self.new.opened self.new.states
             ≡ hand_to (tied job.now) (length job.now.links.now) next (left_of self.new.states) choice.now.chosen
             choice.now.busy choice.now.count (waiting_in self.old.opened self.old.states) }
-        ensures keys_stay { keys_of self.new.states ≡ keys_of self.old.states }
         ensures opened_after { (n : ℕ) (U : ℕ → Bool) → n ≤ 256
             → ((k : ℕ) → k < length job.now.links.now → get_or (afters_of job.now.links.now) k 0 < n)
             → OpenIn n U self.old.opened

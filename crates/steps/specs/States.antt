@@ -2,9 +2,6 @@
 use Rattle.std.specs.Prelude.{ℕ, List, map}
 use Rattle.steps.specs.declared.State.{State}
 
-abbrev pub keys_of : List State → List ℕ
-keys_of xs = map (λ x. x.key) xs
-
 abbrev pub left_of : List State → List ℕ
 left_of xs = map (λ x. x.left) xs
 
@@ -13,4 +10,4 @@ ready_of xs = map (λ x. x.ready) xs
 
 -- What stands for a state where there is none of that place.
 abbrev pub no_state : State
-no_state = record { key = 0; left = 0; ready = 0 }
+no_state = record { left = 0; ready = 0 }

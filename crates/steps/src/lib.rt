@@ -2,10 +2,10 @@
 // a step, made on plain tables, is the plan; no function stands here.
 #![tactic(auto)]
 
-/// What a step knows of a piece: its urgency as one number, the slots left of it, and from when on it may be ready.
+/// What a step changes of a piece: the slots left of it, and from when on it may be ready.
+// Its urgency stands in a table apart, as it never changes; a state is so of eight bytes, by which an address counts.
 #[derive(Clone, Copy, Debug, Default, PartialEq, Eq)]
 pub struct State {
-    pub key: u64,
     pub left: u32,
     pub ready: u32,
 }

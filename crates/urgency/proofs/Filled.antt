@@ -13,7 +13,7 @@ use Rattle.laws.proofs.Words.{by_test}
 use Rattle.rules.specs.Tables.{starts_of, finishes_of}
 use Rattle.rules.specs.declared.Span.{Span}
 use Rattle.steps.specs.Keys.{key_of, Keyed}
-use Rattle.steps.specs.States.{keys_of, left_of, ready_of}
+use Rattle.steps.specs.States.{left_of, ready_of}
 use Rattle.steps.specs.declared.State.{State}
 use Rattle.urgency.specs.Plan.{Begun}
 
@@ -50,9 +50,10 @@ module _ (durations releases : List ℕ) (latests : List ℤ) (xs : List State) 
       finish_is = stored (λ w. w.finish) ws w (λ j. 0) h.finishes_sized h.finish_is d;
     }
 
-    pub keyed_more : x.key ≡ key_of (get_or latests i (pos 0)) i → Keyed i latests (keys_of xs)
-        → Keyed (i + 1) latests (keys_of (set xs i x))
-    keyed_more e h = record {
-      sized = same_length (λ x. x.key) xs x ∙ h.sized;
-      each = stored (λ x. x.key) xs x (λ j. key_of (get_or latests j (pos 0)) j) h.sized h.each e;
-    }
+-- The table of the keys.
+pub keyed_more : (latests : List ℤ) (keys : List ℕ) (i key : ℕ) → i < 256 → key ≡ key_of (get_or latests i (pos 0)) i
+    → Keyed i latests keys → Keyed (i + 1) latests (set keys i key)
+keyed_more latests keys i key small e h = record {
+  sized = length-set keys i key ∙ h.sized;
+  each = filled keys i key (λ j. key_of (get_or latests j (pos 0)) j) (omega (arith, h.sized)) h.each e;
+}

@@ -33,7 +33,7 @@ use Rattle.steps.specs.Handover.{ties, Waiting, hand_to}
 use Rattle.steps.specs.Keys.{no_key}
 use Rattle.steps.specs.Log.{Log, log, note_to}
 use Rattle.steps.specs.Opening.{Among, unfinished, Opening, Lookable, Working, spent_to}
-use Rattle.steps.specs.States.{keys_of, left_of, ready_of}
+use Rattle.steps.specs.States.{left_of, ready_of}
 use Rattle.steps.specs.Tables.{Tables, Listed}
 use Rattle.steps.specs.Work.{Work, work, work_to}
 use Rattle.steps.proofs.Alike.{decided_alike, opened_length, opened_at, among_table, among_opened}
@@ -60,7 +60,6 @@ module _ (ps : List Piece) (ls : List Link) (keys : List ℕ) where
     pub held : Held job (length ps) (desks_of ps) t (work (left_of x.states) (starts_of ws) (finishes_of ws))
         (waiting_in x.opened x.states) (log rs x.lasts.places)
     pub opening : OpenIn (length ps) (unfinished (left_of x.states)) x.opened
-    pub keys_same : keys_of x.states ≡ keys
 
   -- What a decision at moment t says of the next one.
   pub record Turn (t : ℕ) (x : Standing) (ws : List Span) (rs : List Run) (count : ℕ) (chosen busy : List ℕ) (next : ℕ)
@@ -77,7 +76,6 @@ module _ (ps : List Piece) (ls : List Link) (keys : List ℕ) where
         → waiting_in x'.opened x'.states
         ≡ hand_to (ties T.desks T.befores T.afters T.handovers) (length ls) next (left_of x'.states) chosen busy count
         (waiting_in x.opened x.states)
-        → keys_of x'.states ≡ keys_of x.states
         → OpenIn (length ps) (spent_to chosen busy (left_of x'.states) (unfinished (left_of x.states)) count) x'.opened
         → StandsAt next x' ws' rs'
     pub ends : next ≡ never
@@ -165,7 +163,7 @@ module _ (ps : List Piece) (ls : List Link) (keys : List ℕ) where
     -- It is decided.
     module _ (t : ℕ) (x : Standing) (ws : List Span) (rs : List Run) (h : StandsAt t x ws rs) (opened : List ℕ)
         (is : opened ≡ take x.opened.count x.opened.table) (count : ℕ) (chosen busy : List ℕ) (next : ℕ)
-        (found : Decided (view t (desks_of ps) (keys_of x.states) (left_of x.states) (ready_of x.states))
+        (found : Decided (view t (desks_of ps) keys (left_of x.states) (ready_of x.states))
         (Among opened (length opened)) count chosen busy next) where
       abbrev w : Work
       w = work (left_of x.states) (starts_of ws) (finishes_of ws)
@@ -190,8 +188,7 @@ module _ (ps : List Piece) (ls : List Link) (keys : List ℕ) where
       d =
           decided_alike (seen t w s) (Among opened (length opened)) (Among x.opened.table x.opened.count)
           (among_table x.opened.table opened x.opened.count fits_table is)
-          (among_opened x.opened.table opened x.opened.count fits_table is) count chosen busy next
-          (rw h.keys_same at found)
+          (among_opened x.opened.table opened x.opened.count fits_table is) count chosen busy next found
 
       next_ahead : t < next
       next_ahead =
@@ -233,16 +230,14 @@ module _ (ps : List Piece) (ls : List Link) (keys : List ℕ) where
           → log rs' x'.lasts.places ≡ note_to t next chosen busy count l
           → waiting_in x'.opened x'.states
           ≡ hand_to (ties T.desks T.befores T.afters T.handovers) (length ls) next (left_of x'.states) chosen busy count s
-          → keys_of x'.states ≡ keys_of x.states
           → OpenIn (length ps) (spent_to chosen busy (left_of x'.states) (unfinished (left_of x.states)) count) x'.opened
           → StandsAt next x' ws' rs'
-      stands_next c x' ws' rs' a b e k o =
+      stands_next c x' ws' rs' a b e o =
           let w' : Work = work (left_of x'.states) (starts_of ws') (finishes_of ws') in
           record {
             held = held_next w' a (waiting_in x'.opened x'.states) (log rs' x'.lasts.places) b e;
             opening = opening_then (durations_of ps) t next count chosen busy w w' (length ps) x'.opened.count
                 x'.opened.table x'.opened.place x'.opened.waits a o;
-            keys_same = k ∙ h.keys_same;
           }
         where
           held_next : (w' : Work) → w' ≡ work_to T.durations t next chosen busy count w

@@ -9,7 +9,7 @@ ghost use Rattle.rules.specs.Tables.{job_of, desks_of, durations_of, releases_of
 ghost use Rattle.rules.specs.Tables.{starts_of, finishes_of, run_pieces, run_froms, run_untils};
 ghost use Rattle.links.specs.Chains.{Chained};
 ghost use Rattle.steps.specs.Keys.{Keyed};
-ghost use Rattle.steps.specs.States.{keys_of, left_of, ready_of};
+ghost use Rattle.steps.specs.States.{left_of, ready_of};
 ghost use Rattle.urgency.specs.Plan.{Given, Planned, Begun};
 
 use crate::keys::key_of;
@@ -21,19 +21,24 @@ use rules::{Link, Piece, Run, Span};
 use spending::Standing;
 use steps::State;
 
-// The states and spans of the pieces as they are before the first slot.
-fn begin(pieces: &[Piece], latests: &[i32; 256], states: &mut [State; 256], spans: &mut [Span; 256])
+// The keys of the pieces, and their states and spans as they are before the first slot.
+fn begin(
+    pieces: &[Piece],
+    latests: &[i32; 256],
+    keys: &mut [u64; 256],
+    states: &mut [State; 256],
+    spans: &mut [Span; 256],
+)
     requires few { length pieces.now ≤ 256 }
     requires near { (i : ℕ) → i < length pieces.now → nat_abs (get_or latests.now i (pos 0)) ≤ 500000 }
     ensures begun { Begun (length pieces.now) (durations_of pieces.now) (releases_of pieces.now) (left_of states.new)
         (ready_of states.new) (starts_of spans.new) (finishes_of spans.new) }
-    ensures keyed { Keyed (length pieces.now) latests.now (keys_of states.new) }
+    ensures keyed { Keyed (length pieces.now) latests.now keys.new }
 {
     for (i, piece) in pieces.iter().enumerate() {
-        let key = key_of(latests[i], i);
+        keys[i] = key_of(latests[i], i);
         let left = u32::from(piece.duration);
         states[i] = State {
-            key,
             left,
             ready: piece.release,
         };
@@ -63,12 +68,19 @@ pub fn plan(
         links,
         chains,
     };
+    let mut keys = [0; 256];
     let mut standing = Standing::new();
-    begin(pieces, latests, &mut standing.states, spans);
+    begin(pieces, latests, &mut keys, &mut standing.states, spans);
     standing.opened.begin(pieces.len(), links);
     let mut choice = Choice::new();
     let mut t = 0;
-    while let Some(next) = choice.decide(t, standing.opened.pieces(), pieces, &standing.states) {
+    while let Some(next) = choice.decide(
+        t,
+        standing.opened.pieces(),
+        pieces,
+        &keys,
+        &standing.states,
+    ) {
         standing.spend_all(&job, &choice, t, next, spans, runs);
         t = next;
     }

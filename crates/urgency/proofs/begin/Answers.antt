@@ -16,7 +16,6 @@ loop-i-preserved c =
       begun_more (durations_of ps) (releases_of ps) c.args.latests.now l.states l.spans l.i _ _ small
           (c.from-left.ensures ∙ sym (get_or-durations ps l.i)) (sym (get_or-releases ps l.i)) c.default.ensures.0
           c.default.ensures.1 l.invariant.0,
-      keyed_more (durations_of ps) (releases_of ps) c.args.latests.now l.states l.spans l.i _ c.default.result small
-          (rw (to_z-of_z (fits_near _ (c.requires.near l.i c.loop-i-test.true))) at c.key_of-key.ensures)
-          l.invariant.1,
+      keyed_more c.args.latests.now l.keys l.i _ small
+          (rw (to_z-of_z (fits_near _ (c.requires.near l.i c.loop-i-test.true))) at c.key_of.ensures) l.invariant.1,
     )

@@ -6,7 +6,7 @@ use Rattle.rules.specs.Tables.{job_of}
 use Rattle.handing.proofs.Opened.{opened_few}
 use Rattle.steps.specs.Choice.{never}
 use Rattle.steps.specs.Opening.{unfinished}
-use Rattle.steps.specs.States.{keys_of, left_of}
+use Rattle.steps.specs.States.{left_of}
 use Rattle.urgency.specs.Plan.{Ranked}
 use Rattle.urgency.proofs.Planned.{few, between, before_first, in_time, lookable, all_unfinished}
 use Rattle.urgency.proofs.Planned.{Turn, turn}
@@ -16,7 +16,7 @@ use Rattle.urgency.proofs.plan.Goals as goal
 
 -- The keys, and what the contract says of the job with them.
 abbrev keys : After-begin → List ℕ
-keys c = keys_of c.begin.new.states
+keys c = c.begin.new.keys
 
 ranked : (c : After-begin) → Ranked (job_of c.args.pieces.now c.args.links.now) (length c.args.pieces.now) (keys c)
 ranked c =
@@ -49,7 +49,6 @@ loop-next-init c =
           (λ d h. rw c.new-standing.ensures.lasts (get_or-replicate 32 d None None h)) c.clear.ensures;
       opening = c.begin-2.ensures.open_first (unfinished (left_of c.begin.new.states))
           (all_unfinished ps ls (keys start) g _ _ _ _ c.begin.ensures.begun);
-      keys_same = refl;
     }
 
 pub pieces-requires : goal.pieces-requires
@@ -67,10 +66,9 @@ pub decide-requires-clause-lookable : goal.decide-requires-clause-lookable
 decide-requires-clause-lookable c =
     let start = (goal.at.decide-requires-clause-lookable c).After-begin in
     let o = c.loop-next.standing.opened in
-    rw c.loop-next.invariant.keys_same
-    (lookable c.args.pieces.now c.args.links.now (keys start) (ranked start) o.count o.table o.place
+    lookable c.args.pieces.now c.args.links.now (keys start) (ranked start) o.count o.table o.place
     (unfinished (left_of c.loop-next.standing.states)) o.waits
-    c.pieces.result.now c.loop-next.invariant.opening c.pieces.ensures)
+    c.pieces.result.now c.loop-next.invariant.opening c.pieces.ensures
 
 pub decide-requires-clause-in_time : goal.decide-requires-clause-in_time
 decide-requires-clause-in_time c =
@@ -93,12 +91,12 @@ module _ (c : In-Some) where
   abbrev busy : List ℕ
   busy = c.decide.new.self.busy
 
-  said : (g : Ranked (job_of c.args.pieces.now c.args.links.now) (length c.args.pieces.now) (keys_of c.begin.new.states))
-      → Turn c.args.pieces.now c.args.links.now (keys_of c.begin.new.states) c.loop-next.t c.loop-next.standing
+  said : (g : Ranked (job_of c.args.pieces.now c.args.links.now) (length c.args.pieces.now) c.begin.new.keys)
+      → Turn c.args.pieces.now c.args.links.now c.begin.new.keys c.loop-next.t c.loop-next.standing
       c.loop-next.spans c.loop-next.runs.items c.decide.new.self.count chosen busy c.in-Some.next
   said g =
       let l = c.loop-next in
-      turn c.args.pieces.now c.args.links.now (keys_of c.begin.new.states) g l.t l.standing l.spans l.runs.items l.invariant
+      turn c.args.pieces.now c.args.links.now c.begin.new.keys g l.t l.standing l.spans l.runs.items l.invariant
       c.pieces.result.now c.pieces.ensures c.decide.new.self.count chosen busy c.in-Some.next c.in-Some.ensures.decided
 
 pub spend_all-requires-clause-small : goal.spend_all-requires-clause-small
@@ -144,7 +142,7 @@ loop-next-preserved c =
     let ls = c.args.links.now in
     let moved = c.spend_all.ensures in
     (said w.In-Some g).goes_on c.in-Some.ensures.later c.spend_all.new.self c.spend_all.new.spans
-    c.spend_all.new.runs.items moved.work_after moved.log_after moved.ready_after moved.keys_stay
+    c.spend_all.new.runs.items moved.work_after moved.log_after moved.ready_after
     (moved.opened_after (length ps) (unfinished (left_of c.loop-next.standing.states))
     (few ps ls (keys w.After-begin) g) (between ps ls (keys w.After-begin) g).after_one c.loop-next.invariant.opening)
 

@@ -3,13 +3,12 @@
 use Rattle.std.specs.Prelude.{◌-◌}
 use Rattle.rules.specs.Tables.{job_of}
 use Rattle.rules.specs.Urgency.{horizon}
-use Rattle.steps.specs.States.{keys_of}
 use Rattle.urgency.proofs.Planned.{StandsAt}
 use Rattle.urgency.proofs.plan.Given as goal
 
 abbrev pub invariant-loop-next : goal.invariant-loop-next
 invariant-loop-next l =
-    StandsAt l.pieces l.links (keys_of l.initial.standing.states) l.t l.standing l.spans l.runs.items
+    StandsAt l.pieces l.links l.keys l.t l.standing l.spans l.runs.items
 
 abbrev pub decreases-loop-next : goal.decreases-loop-next
 decreases-loop-next l = horizon (job_of l.pieces l.links) - l.t

@@ -5,7 +5,7 @@ use Rattle.std.proofs.Math.ListN.{get_or-replicate}
 use Rattle.rules.specs.Tables.{desks_of}
 use Rattle.steps.specs.Choice.{View, view}
 use Rattle.steps.specs.Keys.{no_key}
-use Rattle.steps.specs.States.{keys_of, left_of, ready_of}
+use Rattle.steps.specs.States.{left_of, ready_of}
 use Rattle.deciding.proofs.Ends.{decided}
 use Rattle.deciding.proofs.Choice.decide.Goals.{Start}
 use Rattle.deciding.proofs.Choice.decide.Goals as goal
@@ -13,7 +13,7 @@ use Rattle.deciding.proofs.Choice.decide.Goals as goal
 abbrev seen : Start → View
 seen s =
     let a = s.args in
-    view a.t (desks_of a.pieces.now) (keys_of a.states.now) (left_of a.states.now) (ready_of a.states.now)
+    view a.t (desks_of a.pieces.now) a.keys.now (left_of a.states.now) (ready_of a.states.now)
 
 pub look_at-look-requires-clause-clear : goal.look_at-look-requires-clause-clear
 look_at-look-requires-clause-clear c d h = get_or-replicate 32 d no_key 0 h

@@ -12,7 +12,7 @@ use Rattle.steps.specs.Handover.{hand_to}
 use Rattle.steps.specs.Log.{log, note_to}
 use Rattle.steps.specs.States.{left_of}
 use Rattle.steps.specs.Work.{Work, work, forth, work_to}
-use Rattle.spending.proofs.Later.{left_stays, hands_by, opens_by, worked_then, keys_then, ready_then}
+use Rattle.spending.proofs.Later.{left_stays, hands_by, opens_by, worked_then, ready_then}
 use Rattle.spending.proofs.Spent.{spent_none, spent_more, spent_room, spent_end}
 use Rattle.spending.proofs.Standing.spend_all.Goals.{In-loop-d, Start, After-hand_on}
 use Rattle.spending.proofs.Standing.spend_all.Goals as goal
@@ -35,7 +35,6 @@ loop-d-init c =
       worked = refl;
       noted = refl;
       handed = refl;
-      keys = refl;
       spent = spent_none (length a.job.now.links.now) (afters_of a.job.now.links.now) a.choice.now.count
           a.choice.now.chosen a.choice.now.busy (done (goal.at.loop-d-init c).Start) o.count o.table o.place o.waits
           c.requires.working;
@@ -98,8 +97,6 @@ loop-d-preserved c =
       handed = hand_more (tied j) m a.next (done start) chosen busy l.d-index (waiting_in o a.self.now.states)
           (waiting_in l.self.opened l.self.states) _ l.invariant.handed
           (handed ∙ hands_by (tied j) m a.next _ (done start) i (waiting_in l.self.opened l.self.states) rest);
-      keys = keys_then j.pieces.now a.t a.next c.from-i.result l.self.states c.hand_on.new.states l.spans _ _
-          c.work_on.ensures.state_after c.work_on.ensures.span_after only ∙ l.invariant.keys;
       spent = spent_more m (afters_of j.links.now) a.choice.now.count chosen busy (done start) o.count o.table o.place
           o.waits c.requires.working l.d-index l.self.opened.count l.self.opened.table l.self.opened.place
           l.self.opened.waits here l.invariant.spent _ _ _ _

@@ -5,7 +5,7 @@ use Rattle.rules.specs.Tables.{afters_of, durations_of, starts_of, finishes_of}
 use Rattle.handing.specs.Open.{tied, waiting_in}
 use Rattle.steps.specs.Handover.{hand_to}
 use Rattle.steps.specs.Log.{log, note_to}
-use Rattle.steps.specs.States.{keys_of, left_of}
+use Rattle.steps.specs.States.{left_of}
 use Rattle.steps.specs.Work.{work, work_to}
 use Rattle.spending.proofs.Spent.{Spent}
 use Rattle.spending.proofs.Standing.spend_all.Given as goal
@@ -24,7 +24,6 @@ invariant-loop-d l =
           ≡ note_to l.t l.next chosen busy l.d-index (log l.initial.runs.items was.lasts.places);
       handed : waiting_in l.self.opened l.self.states
           ≡ hand_to (tied l.job) m l.next done chosen busy l.d-index (waiting_in was.opened was.states);
-      keys : keys_of l.self.states ≡ keys_of was.states;
       spent : Spent m (afters_of l.job.links.now) l.choice.count chosen busy done was.opened.count was.opened.table
           was.opened.place was.opened.waits l.d-index l.self.opened.count l.self.opened.table l.self.opened.place
           l.self.opened.waits;
