@@ -1,7 +1,7 @@
 -- The links of one desk, link by link: one more that both its pieces put there, or one that is no link of the desk.
 -- Assumes nothing.
-use Rattle.std.proofs.Common.{ℕ, ◌+◌, ◌≤◌, ◌<◌, Bool, false, ◌&&◌, ◌||◌, List, [], ◌∷◌, ◌++◌, ◌≡◌, ◌∙◌, refl, sym, ap}
-use Rattle.std.proofs.Common.{length, get_or, take, eqb, arith}
+use Rattle.std.proofs.Common.{ℕ, ◌+◌, ◌≤◌, ◌<◌, Bool, false, ◌&&◌, ◌||◌, eqb, ◌≡◌, ◌∙◌, refl, sym, ap, arith}
+use Rattle.std.proofs.Common.{List, [], ◌∷◌, ◌++◌, length, get_or, take}
 use Rattle.std.proofs.lemmas.List.{length_push, get_or_push, get_or_append_left}
 use borrow.Author.Tests.{ne_eqb}
 use Rattle.rules.specs.Rings.{linked_by}

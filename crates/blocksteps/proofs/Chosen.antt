@@ -1,7 +1,7 @@
 -- Who is set aside, looked for from the last piece of a block to the first: the best of those behind gives the best of
 -- all. And the slice without it. Assumes nothing.
-use Rattle.std.proofs.Common.{ℕ, ◌+◌, ◌≤◌, ◌<◌, Bool, true, false, not, ◌||◌, List, [], ◌∷◌, ◌++◌, ◌≡◌, ◌∙◌, refl, sym}
-use Rattle.std.proofs.Common.{ap, map, length, get_or, set, take, drop, eqb, Some, None, arith}
+use Rattle.std.proofs.Common.{ℕ, ◌+◌, ◌≤◌, ◌<◌, Bool, true, false, not, ◌||◌, eqb, Some, None, ◌≡◌, ◌∙◌, refl, sym}
+use Rattle.std.proofs.Common.{ap, List, [], ◌∷◌, ◌++◌, map, length, get_or, set, take, drop, arith}
 use Rattle.std.specs.Prelude.{Option as Maybe}
 use Rattle.std.proofs.Math.Option.{Option, none, some, none-ne-some, some-injective}
 use Rattle.std.proofs.lemmas.List.{append_assoc, append-nil, map-append, length-append, length-set, get_or_at}

@@ -1,14 +1,15 @@
 -- The board in the list of its runs: a stretch put at the end, or a later end put into the last one. Assumes nothing.
-use Rattle.std.proofs.Common.{ℕ, ◌+◌, ◌-◌, ◌≤◌, ◌<◌, true, false, ◌&&◌, List, [], ◌∷◌, ◌++◌, ◌≡◌, ◌∙◌, refl, sym, ap}
-use Rattle.std.proofs.Common.{length, get_or, set, take, eqb, ltb, arith}
+use Rattle.std.proofs.Common.{ℕ, ◌+◌, ◌-◌, ◌≤◌, ◌<◌, true, false, ◌&&◌, eqb, ltb, ◌≡◌, ◌∙◌, refl, sym, ap, arith}
+use Rattle.std.proofs.Common.{List, [], ◌∷◌, ◌++◌, length, get_or, set, take}
 use Rattle.std.specs.Prelude.{reverse}
 use Rattle.std.specs.List.{refill}
 use Rattle.std.proofs.Math.Option.{some}
-use Rattle.std.proofs.lemmas.List.{reverse-append, take_more, take_all, set_at, length-take-le, drop_all, append-nil}
+use Rattle.std.proofs.lemmas.List.{reverse-append, take_more, take_all, set_at, length-take-le}
 use borrow.Author.Tests.{lt-ltb, le-ltb, eqb-true}
 use Rattle.rules.specs.Tables.{no_run}
 use Rattle.rules.specs.declared.Run.{Run as Stretch}
 use Rattle.laws.proofs.Words.{true_or_false, and_true, when_true, when_false}
+use Rattle.entries.proofs.ByKeys.{refilled}
 use Rattle.method.specs.Board.{stretch, board_of, touching, joined, give}
 
 -- The last of a list that is not empty.
@@ -90,6 +91,4 @@ seen_last p f runs x h e =
 
 -- A list written through a slice of it.
 pub written_through : {A : Type 0} (n : ℕ) (xs ws : List A) → n ≡ length xs → length ws ≡ length xs → refill n xs ws ≡ ws
-written_through n xs ws h k =
-    ap (λ l. take n (ws ++ l)) (drop_all (length ws) xs (omega arith))
-    ∙ ap (take n) (append-nil ws) ∙ take_all n ws (omega arith)
+written_through n xs ws h k = refilled n xs ws (k ∙ sym h)

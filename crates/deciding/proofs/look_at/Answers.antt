@@ -54,9 +54,9 @@ loop-i-preserved c left =
           let late = rw (c.from-i.ensures, ready_is turn) at w.if-later.true in
           let least = rw (c.from-i.ensures, ready_is turn) at w.min-next.ensures in
           rw (w.count-is, w.best-is, w.busy-is, w.next-is)
-          (looked_later (seen start left) (Among table l.i-index) (Among table (l.i-index + 1)) (among_more table l.i-index)
-          (piece turn) (among_last table l.i-index) (among_split table l.i-index) l.count l.best l.busy l.next _ late least
-          (l.invariant left))
+          (looked_later (seen start left) (Among table l.i-index) (Among table (l.i-index + 1))
+          (among_more table l.i-index) (piece turn) (among_last table l.i-index) (among_split table l.i-index)
+          l.count l.best l.busy l.next _ late least (l.invariant left))
       | else-later w ↦
           let desk : w.from.result ≡ get_or (desks_of c.args.pieces.now) (piece turn) 0 =
           rw c.from-i.ensures at w.from.ensures ∙ sym (get_or-desks c.args.pieces.now (piece turn)) in
